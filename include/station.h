@@ -32,7 +32,7 @@
 extern "C" {
 #endif
 
-#define STATION_VERSION "0.8.0"
+#define STATION_VERSION "0.9.0"
 
 /* Lengths of the areas, in bytes: each call takes these and no other. */
 #define STATION_WORK_BYTES 65536
@@ -66,7 +66,7 @@ enum station_number {
     STATION_NAME = 6,               /* name undeclared, not allowed, reserved, declared twice */
     STATION_TYPE = 7,               /* wrong type */
     STATION_UNFINISHED = 8,         /* text ends before main's `end` */
-    STATION_ASSIGNED = 9,           /* variable that may not be assigned; `call x` with x as y or z */
+    STATION_ASSIGNED = 9,           /* variable that may not be assigned; `call x` with x as y or z; `open x x` */
     STATION_UNFRAMED = 10,          /* path read before its `acc` or `read` */
     STATION_UNRESOLVED = 11,        /* path that does not resolve */
     STATION_NO_PERMISSION = 12,     /* permission not shown */

@@ -66,7 +66,7 @@ _MEANINGS = {
     Number.NAME: "name undeclared, not allowed, reserved, declared twice",
     Number.TYPE: "wrong type",
     Number.UNFINISHED: "text ends before main's `end`",
-    Number.ASSIGNED: "variable that may not be assigned; `call x` with x as y or z",
+    Number.ASSIGNED: "variable that may not be assigned; `call x` with x as y or z; `open x x`",
     Number.UNFRAMED: "path read before its `acc` or `read`",
     Number.UNRESOLVED: "path that does not resolve",
     Number.NO_PERMISSION: "permission not shown",

@@ -11,7 +11,7 @@ meanings <- c(
   "6" = "name undeclared, not allowed, reserved, declared twice",
   "7" = "wrong type",
   "8" = "text ends before main's `end`",
-  "9" = "variable that may not be assigned; `call x` with x as y or z",
+  "9" = "variable that may not be assigned; `call x` with x as y or z; `open x x`",
   "10" = "path read before its `acc` or `read`",
   "11" = "path that does not resolve",
   "12" = "permission not shown",

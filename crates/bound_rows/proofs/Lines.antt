@@ -11,7 +11,7 @@ use lib.Dec.{eqb}
 use lib.ListN.{length}
 use Rattle.rules.specs.Base.{Member}
 use Rattle.rules.specs.Grammar.{isComputing}
-use Rattle.rules.specs.Syntax.{Row, Stmt, Method, noRow, rowNumbered, set, assign, compute, new, call, assert, release, simple, return, if, else, join, loop, again, end}
+use Rattle.rules.specs.Syntax.{Row, Stmt, Method, noRow, rowNumbered, set, assign, compute, new, call, assert, release, openChain, shutChain, simple, return, if, else, join, loop, again, end}
 use Rattle.rules.specs.Bounds.{isEnd, called, isLoop, block, blocks, callees}
 use Rattle.rules.proofs.Lists.{came-from, decide-eq}
 use Rattle.tables.specs.declared.Operands.{Operands}
@@ -36,6 +36,8 @@ says (simple (new x c)) = (refl, refl, refl)
 says (simple (call x y n z)) = (refl, refl, refl)
 says (simple (assert φ)) = (refl, refl, refl)
 says (simple (release φ)) = (refl, refl, refl)
+says (simple (openChain y x f)) = (refl, refl, refl)
+says (simple (shutChain x f)) = (refl, refl, refl)
 says (return x) = (refl, refl, refl)
 says (if n a b) = (refl, refl, refl)
 says else = (refl, refl, refl)
@@ -73,7 +75,9 @@ module _ (w : List ℕ) (r : Operands) where
       (either (eqb (r .kind) 16) (inl refl)
       (either (eqb (r .kind) 17) (inl refl)
       (either (isComputing (r .kind)) (inl refl)
-      (either (eqb (r .kind) 22) (inl refl) (inr refl))))))))))))
+      (either (eqb (r .kind) 22) (inl refl)
+      (either (eqb (r .kind) 23) (inl refl)
+      (either (eqb (r .kind) 24) (inl refl) (inr refl))))))))))))))
     where
       either :
           (b : Bool) {s t : Stmt} → (lineOf s ≡ Plain) ⊎ (s ≡ end) → (lineOf t ≡ Plain) ⊎ (t ≡ end) →

@@ -11,10 +11,10 @@ use lib.ListN.{length}
 use Rattle.bound_laws.specs.Routes.{Loopless}
 use Rattle.rules.specs.Base.{ok}
 use Rattle.rules.specs.Limits.{most-branches}
-use Rattle.rules.specs.Syntax.{Rel, Expr, Formula, Operation, Simple, Stmt, Field, Program, rowNumbered, methodNumbered}
-use Rattle.rules.specs.Syntax.{set, assign, compute, new, call, return, assert, release, simple, if, else, join, loop, again, end}
+use Rattle.rules.specs.Syntax.{Rel, Expr, Formula, Operation, Simple, Stmt, Field, Program, path, rowNumbered, methodNumbered}
+use Rattle.rules.specs.Syntax.{set, assign, compute, new, call, return, assert, release, openChain, shutChain, simple, if, else, join, loop, again, end}
 use Rattle.rules.specs.Machine.{Config, Frame, Room, on, statementOf, without, footprint, value, compared, locate, closing, jump, advance, bind, holding, withFrame, choose, ifStep}
-use Rattle.rules.specs.Machine.{elseStep, stored, setStep, assignStep, computed, computeStep, grown, newStep, callFrame, entered, callStep, returned, assertStep, releaseStep, endStep, returnStep, simpleStep, stepAt, step, valueOf}
+use Rattle.rules.specs.Machine.{elseStep, takeWalk, stored, setStep, assignStep, computed, computeStep, grown, newStep, callFrame, entered, callStep, returned, assertStep, releaseStep, openStep, shutStep, endStep, returnStep, simpleStep, stepAt, step, valueOf}
 use Rattle.rules.specs.Bounds.{isEnd, called, isLoop, block}
 use Rattle.rules.proofs.Lists.{and-both}
 use Rattle.rules.proofs.Tries.{bind-ok, check-ok, ok-inj}
@@ -75,6 +75,20 @@ release-stays : (φ : Formula ℕ) (m m′ : Config) → releaseStep φ m ≡ ok
 unfolding releaseStep withFrame advance jump holding
 release-stays φ m m′ e = let (A, _, q) = bind-ok (footprint (m .heap) (m .frame) φ) e in subst (Stays m) (ok-inj q) (refl, refl)
 
+open-stays : (y x f : ℕ) (m m′ : Config) → openStep y x f m ≡ ok m′ → Stays m m′
+unfolding openStep withFrame advance jump bind
+open-stays y x f m m′ e =
+    let (A, _, q) = bind-ok (takeWalk (m .heap) (m .frame) f (valueOf (m .frame) x) []) (check-ok _ _ e .1) in
+    subst (Stays m) (ok-inj q) (refl, refl)
+
+shut-stays : (x f : ℕ) (m m′ : Config) → shutStep x f m ≡ ok m′ → Stays m m′
+unfolding shutStep withFrame advance jump
+shut-stays x f m m′ e =
+    let (v, _, q) = bind-ok (value (m .heap) (m .frame) (path x f)) e in
+    let (A, _, r) = bind-ok (takeWalk (m .heap) (m .frame) f v []) q in
+    let (p, _, s) = bind-ok (locate (m .frame) A 2 x f) r in
+    subst (Stays m) (ok-inj s) (refl, refl)
+
 module _ (room : Room) (P : Program) (m m′ : Config) where
   abbrev i : ℕ
   i = m .frame .row
@@ -112,6 +126,8 @@ module _ (room : Room) (P : Program) (m m′ : Config) where
   simple-move (call x y n z) w N q = call-move x y n z w N q
   simple-move (assert φ) w N q = stays-move _ w refl N (assert-stays φ m m′ q)
   simple-move (release φ) w N q = stays-move _ w refl N (release-stays φ m m′ q)
+  simple-move (openChain y x f) w N q = stays-move _ w refl N (open-stays y x f m m′ q)
+  simple-move (shutChain x f) w N q = stays-move _ w refl N (shut-stays x f m m′ q)
 
   choose-move :
       (t : Stmt) → Is t → isEnd t ≡ false → (n : Rel) (a b : Expr ℕ) (j k : ℕ) → Later P (suc i) j → Nested P j →

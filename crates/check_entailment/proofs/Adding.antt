@@ -4,16 +4,16 @@ use mathlib.Core.Bool.{Bool, false, true}
 use mathlib.Core.List.{List, [], _∷_, _++_}
 use mathlib.Core.Logic.{_⊎_, ⊎-elim}
 use mathlib.Core.Option.{Option, none, some}
-use Prim.Native.Nat.{ℕ, _+_, _*_, _-_, _≤_, _<_}
+use Prim.Native.Nat.{ℕ, _+_, _*_, _≤_, _<_}
 use native.Mathlib.Omega.{arith}
-use lib.Dec.{eqb, leb}
+use lib.Dec.{eqb}
 use lib.ListN.{length, getD, set, length-set}
 use lib.Seq.{getD-set-same, getD-set-other}
 use borrow.Author.Tests.{lt-ltb, le-ltb}
 use Rattle.rules.specs.Base.{Try, ok, no, _>>=_, _>>_, check}
 use Rattle.rules.specs.Limits.{most-permissions, most-facts}
 use Rattle.rules.specs.Answers.{Refusal, unresolved}
-use Rattle.rules.specs.Syntax.{Rel, Permit, acc, read, own, cmp}
+use Rattle.rules.specs.Syntax.{Rel, Permit, var, acc, read, own, cmp}
 use Rattle.rules.specs.State as Rules
 use Rattle.rules.specs.State.{Permission, Term, entry, equalIn, split, resolve}
 use Rattle.rules.proofs.Lists.{decide-eq}
@@ -22,7 +22,7 @@ use Rattle.check_equality.specs.Links.{Pushed, relOf, factOf}
 use Rattle.check_equality.specs.Layout.{left-sides, relations-at, variables-at, fields-at, kinds-at, fact-count, entry-count, read-kind, acc-kind, bytes}
 use Rattle.check_equality.proofs.Listing.{listed-length, listed-same}
 use Rattle.check_state.specs.States.{Wf, Linked, stateOf, facts, entries, factAt, factsIn, factsOf, variableAt, fieldAt, kindAt, permitOf, permissionAt, permissionsIn, permissionsOf, IsKind}
-use Rattle.check_state.specs.Questions.{FirstPlace, Bytes, entryTest, passes}
+use Rattle.check_state.specs.Questions.{FirstPlace, Bytes, entryTest, passes, inRange}
 use Rattle.check_state.proofs.Writing.{entries-same, kinds-same, linked-same, facts-same, same-linked, same-facts, pushed-facts, pushed-linked, pushed-rest, counted-linked, counted-facts, counted-other}
 use Rattle.check_entries.specs.Entries.{appended}
 use Rattle.check_entries.proofs.Halves.{appended-listed}
@@ -58,11 +58,6 @@ module _ (key b : List ℕ) (apart : Bool) (l r : Term) where
 pub own-atom : (key b : List ℕ) (k : Permit) (x f : ℕ) (a : Answer) (b′ : List ℕ) → Adds (Rules.addOwn k x f (stateOf key b)) a key b′ → AddsAtom key b (own k x f) a key b′
 unfolding Rules.add
 own-atom key b k x f a b′ A = record { wf = A .wf; same = A .same ∙ sym (last (Rules.addOwn k x f (stateOf key b))) }
-
-pub acc-atom :
-    (key b : List ℕ) (x f : ℕ) (a : Answer) (b′ : List ℕ) → Adds (Rules.addPermission (entry (permitOf acc-kind) x f) (stateOf key b)) a key b′ → AddsAtom key b (own acc x f) a key b′
-unfolding Rules.addOwn permitOf
-acc-atom key b x f a b′ A = own-atom key b acc x f a b′ A
 
 -- ROOM
 pub full-permissions : (key b : List ℕ) (p : Permission) → Wf key b → most-permissions ≤ entries b → Adds (Rules.addPermission p (stateOf key b)) Answer.Full key b
@@ -127,8 +122,8 @@ module _ (key b : List ℕ) (k x f : ℕ) (isKind : IsKind k) (w : Wf key b) (h 
       (ap (factsIn key counted-one) count-one ∙ facts-same key b counted-one (facts b) (w .linked .fit) low-one)
 
 -- a half joined to the one of an entry
-module _ (key b : List ℕ) (w : Wf key b) (halves : List ℕ) (x f i : ℕ) (B : Bytes (λ j. acc-kind - kindAt b j) (entries b) halves)
-    (F : FirstPlace (entryTest b halves read-kind x f (equalIn (stateOf key b))) (entries b) i) where
+module _ (key b : List ℕ) (w : Wf key b) (kinds : List ℕ) (x f i : ℕ) (B : Bytes (kindAt b) most-permissions kinds)
+    (F : FirstPlace (entryTest b kinds read-kind read-kind (var x) f (equalIn (stateOf key b))) (entries b) i) where
   abbrev joins-it : Permission → Option (List Permission)
   joins-it = Rules.joins (equalIn (stateOf key b)) x f
 
@@ -136,11 +131,11 @@ module _ (key b : List ℕ) (w : Wf key b) (halves : List ℕ) (x f i : ℕ) (B 
   raised = set b (kinds-at + i) acc-kind
 
   joined-entry :
-      (j : ℕ) → j < entries b → (c : Bool) → entryTest b halves read-kind x f (equalIn (stateOf key b)) j ≡ c →
+      (j : ℕ) → j < entries b → (c : Bool) → entryTest b kinds read-kind read-kind (var x) f (equalIn (stateOf key b)) j ≡ c →
       split joins-it (permissionAt b j ∷ []) ≡ instead c (permissionAt b j) (entry acc (variableAt b j) (fieldAt b j) ∷ [])
   joined-entry j h c e =
       joined-at (equalIn (stateOf key b)) x f (variableAt b j) (fieldAt b j) (kindAt b j) (w .kinds j h)
-      ∙ ap (λ (c : Bool). instead c (permissionAt b j) (entry acc (variableAt b j) (fieldAt b j) ∷ [])) (sym (ap (λ (l : ℕ). passes (equalIn (stateOf key b)) x f (leb read-kind l) (variableAt b j) (fieldAt b j)) (B .at j h)) ∙ e)
+      ∙ ap (λ (c : Bool). instead c (permissionAt b j) (entry acc (variableAt b j) (fieldAt b j) ∷ [])) (sym (ap (λ (l : ℕ). passes (equalIn (stateOf key b)) (var x) f (inRange read-kind read-kind l) (variableAt b j) (fieldAt b j)) (B .at j (omega (arith, w .fit)))) ∙ e)
 
   none-joined : entries b ≤ i → split joins-it (permissionsOf b) ≡ none
   none-joined h =

@@ -3,22 +3,23 @@ use mathlib.Core.Path.{_≡_, refl, sym, ap, _∙_}
 use mathlib.Core.Bool.{Bool, true, false, cond, _&&_}
 use mathlib.Core.List.{List, [], _∷_, _++_, append-assoc, append-nil}
 use mathlib.Core.Option.{Option, none, some}
-use mathlib.Core.Logic.{_⊎_, inl, inr, ⊎-elim}
+use mathlib.Core.Logic.{⊎-elim}
 use Prim.Native.Nat.{ℕ, zero, suc, _-_, _≤_, _<_}
 use native.Mathlib.Omega.{arith}
-use lib.Dec.{eqb, leb}
+use lib.Dec.{eqb}
 use borrow.Author.Tests.{lt-leb}
 use lib.ListN.{length, getD, set}
 use lib.Seq.{getD-set-same, getD-set-other}
 use Rattle.rules.specs.Base.{bindOption}
-use Rattle.rules.specs.Syntax.{acc, read, var}
-use Rattle.rules.specs.State.{Permission, Equality, Split, entry, names, leaves, withPermit, giving, split, joining, joins}
+use Rattle.rules.specs.Syntax.{acc, read, chain, var}
+use Rattle.rules.specs.State.{Term, Permission, Equality, Split, entry, entryOf, leaves, withPermit, giving, split, joining, joins}
 use Rattle.rules.proofs.Lists.{decide-eq}
-use Rattle.check_equality.specs.Layout.{read-kind, acc-kind}
+use Rattle.check_equality.specs.Layout.{read-kind, acc-kind, chain-kind}
 use Rattle.check_state.specs.States.{variableAt, fieldAt, permitOf, IsKind}
-use Rattle.check_state.specs.Questions.{FirstPlace, entryTest, passes}
-use Rattle.check_entries.specs.Entries.{halvesOf, appended, leftIn}
+use Rattle.check_state.specs.Questions.{FirstPlace, entryTest, passes, inRange}
+use Rattle.check_entries.specs.Entries.{entryLeft, appended, leftIn}
 use Rattle.check_entries.proofs.Halves.{appended-same}
+use Rattle.check_entailment.specs.Answers.{mostServing}
 
 abbrev ahead : List Permission → Split → Split
 ahead l c = record { taken = c .taken; left = c .left; list = l ++ c .list }
@@ -127,66 +128,73 @@ module _ (t : Permission → Option (List Permission)) (p : Permission) where
   never true e = gives-way false [] e
   never false e = gives-way false [] e
 
-a-kind : (k : ℕ) → IsKind k → (k ≡ read-kind) ⊎ (k ≡ acc-kind)
-a-kind k w = ⊎-elim (λ e. inl e) (λ e. inr (omega arith)) (decide-eq k read-kind)
+-- by kinds
+pub of-kind : (P : ℕ → Type 0) → P read-kind → P acc-kind → P chain-kind → (k : ℕ) → IsKind k → P k
+of-kind P r a c k w =
+    ⊎-elim (λ e. rw e r) (λ d. ⊎-elim (λ e. rw e a) (λ e. let g : k ≡ chain-kind = omega arith in rw g c) (decide-eq k acc-kind)) (decide-eq k read-kind)
 
-module _ (_~_ : Equality) (y f x g : ℕ) where
+module _ (_~_ : Equality) (t : Term) (f x g : ℕ) where
   abbrev named : Bool
-  named = eqb g f && _~_ (var x) (var y)
+  named = eqb g f && _~_ (var x) t
 
-  -- which halves an atom takes of those left
+  -- what an atom takes of what is left
   abbrev Taken : ℕ → ℕ → Type 0
   Taken w l =
-      split (giving _~_ (permitOf w) y f) (halvesOf l x g) ≡ instead (passes _~_ y f (leb w l) x g) (entry (permitOf l) x g) (halvesOf (l - w) x g)
+      split (giving _~_ (permitOf w) t f) (entryLeft l x g)
+      ≡ instead (passes _~_ t f (inRange w (mostServing w) l) x g) (entry (permitOf l) x g) (entryLeft (l - w) x g)
 
   none-taken : (w : ℕ) → IsKind w → Taken w 0
-  unfolding split passes halvesOf
+  unfolding split passes inRange entryLeft
   none-taken w k = rw (lt-leb w 0 (omega arith))
 
-  half-taken : (l : ℕ) → IsKind l → Taken read-kind l
-  unfolding giving leaves withPermit names passes halvesOf permitOf bindOption
-  half-taken l k =
-      ⊎-elim (λ e. rw e (gives-way (giving _~_ read y f) (entry read x g) named [] refl))
-      (λ e. rw e (gives-way (giving _~_ read y f) (entry acc x g) named (entry read x g ∷ []) refl)) (a-kind l k)
+  some-taken : (w l : ℕ) → IsKind w → IsKind l → Taken w l
+  unfolding giving entryOf leaves withPermit passes inRange mostServing entryLeft permitOf bindOption
+  some-taken w l k h =
+      of-kind (λ w. Taken w l)
+      (of-kind (Taken read-kind) (gives-way (giving _~_ read t f) (entry read x g) named [] refl)
+      (gives-way (giving _~_ read t f) (entry acc x g) named (entry read x g ∷ []) refl) (never (giving _~_ read t f) (entry chain x g) named refl) l h)
+      (of-kind (Taken acc-kind) (never (giving _~_ acc t f) (entry read x g) named refl)
+      (gives-way (giving _~_ acc t f) (entry acc x g) named [] refl) (never (giving _~_ acc t f) (entry chain x g) named refl) l h)
+      (of-kind (Taken chain-kind) (never (giving _~_ chain t f) (entry read x g) named refl)
+      (never (giving _~_ chain t f) (entry acc x g) named refl) (gives-way (giving _~_ chain t f) (entry chain x g) named [] refl) l h)
+      w k
 
-  both-taken : (l : ℕ) → IsKind l → Taken acc-kind l
-  unfolding giving leaves withPermit names passes halvesOf permitOf bindOption
-  both-taken l k =
-      ⊎-elim (λ e. rw e (never (giving _~_ acc y f) (entry read x g) named refl)) (λ e. rw e (gives-way (giving _~_ acc y f) (entry acc x g) named [] refl))
-      (a-kind l k)
+  taken-at : (w l : ℕ) → IsKind w → l ≤ chain-kind → Taken w l
+  taken-at w l k h = ⊎-elim (λ d. rw d (none-taken w k)) (λ d. some-taken w l k (omega arith, h)) (decide-eq l 0)
 
-  taken-at : (w l : ℕ) → IsKind w → l ≤ acc-kind → Taken w l
-  taken-at w l k h =
-      ⊎-elim (λ d. rw d (none-taken w k))
-      (λ d. ⊎-elim (λ e. rw e (half-taken l (omega arith, h))) (λ e. rw e (both-taken l (omega arith, h))) (a-kind w k)) (decide-eq l 0)
-
-  -- a half added is joined to one
-  pub joined-at :
-      (k : ℕ) → IsKind k → split (joins _~_ y f) (entry (permitOf k) x g ∷ []) ≡ instead (passes _~_ y f (leb read-kind (acc-kind - k)) x g) (entry (permitOf k) x g) (entry acc x g ∷ [])
-  unfolding joins joining withPermit names passes permitOf
-  joined-at k w =
-      ⊎-elim (λ e. rw e (gives-way (joins _~_ y f) (entry read x g) named (entry acc x g ∷ []) refl))
-      (λ e. rw e (never (joins _~_ y f) (entry acc x g) named refl)) (a-kind k w)
+-- a half added is joined to one
+pub joined-at :
+    (_~_ : Equality) (y f x g k : ℕ) → IsKind k →
+    split (joins _~_ y f) (entry (permitOf k) x g ∷ [])
+    ≡ instead (passes _~_ (var y) f (inRange read-kind read-kind k) x g) (entry (permitOf k) x g) (entry acc x g ∷ [])
+unfolding joins joining withPermit entryOf passes inRange permitOf
+joined-at _~_ y f x g k w =
+    of-kind
+    (λ k. split (joins _~_ y f) (entry (permitOf k) x g ∷ [])
+    ≡ instead (passes _~_ (var y) f (inRange read-kind read-kind k) x g) (entry (permitOf k) x g) (entry acc x g ∷ []))
+    (gives-way (joins _~_ y f) (entry read x g) (named _~_ (var y) f x g) (entry acc x g ∷ []) refl)
+    (never (joins _~_ y f) (entry acc x g) (named _~_ (var y) f x g) refl)
+    (never (joins _~_ y f) (entry chain x g) (named _~_ (var y) f x g) refl) k w
 
 -- WHAT IS LEFT
-module _ (b left : List ℕ) (_~_ : Equality) (w y f n i : ℕ) (k : IsKind w) (most : (j : ℕ) → j < n → getD left j 0 ≤ acc-kind)
-    (F : FirstPlace (entryTest b left w y f _~_) n i) where
-  at : (j : ℕ) → j < n → (c : Bool) → entryTest b left w y f _~_ j ≡ c →
-      split (giving _~_ (permitOf w) y f) (halvesOf (getD left j 0) (variableAt b j) (fieldAt b j))
-      ≡ instead c (entry (permitOf (getD left j 0)) (variableAt b j) (fieldAt b j)) (halvesOf (getD left j 0 - w) (variableAt b j) (fieldAt b j))
-  at j h c e = taken-at _~_ y f (variableAt b j) (fieldAt b j) w (getD left j 0) k (most j h) ∙ rw e
+module _ (b left : List ℕ) (_~_ : Equality) (w : ℕ) (t : Term) (f n i : ℕ) (k : IsKind w) (most : (j : ℕ) → j < n → getD left j 0 ≤ chain-kind)
+    (F : FirstPlace (entryTest b left w (mostServing w) t f _~_) n i) where
+  at : (j : ℕ) → j < n → (c : Bool) → entryTest b left w (mostServing w) t f _~_ j ≡ c →
+      split (giving _~_ (permitOf w) t f) (entryLeft (getD left j 0) (variableAt b j) (fieldAt b j))
+      ≡ instead c (entry (permitOf (getD left j 0)) (variableAt b j) (fieldAt b j)) (entryLeft (getD left j 0 - w) (variableAt b j) (fieldAt b j))
+  at j h c e = taken-at _~_ t f (variableAt b j) (fieldAt b j) w (getD left j 0) k (most j h) ∙ rw e
 
-  pub left-none : n ≤ i → split (giving _~_ (permitOf w) y f) (leftIn b left n) ≡ none
-  left-none h = split-none (giving _~_ (permitOf w) y f) _ n (λ j g. at j g false (F .before j (omega arith)))
+  pub left-none : n ≤ i → split (giving _~_ (permitOf w) t f) (leftIn b left n) ≡ none
+  left-none h = split-none (giving _~_ (permitOf w) t f) _ n (λ j g. at j g false (F .before j (omega arith)))
 
   pub left-first :
       i < n → i < length left →
-      split (giving _~_ (permitOf w) y f) (leftIn b left n)
+      split (giving _~_ (permitOf w) t f) (leftIn b left n)
       ≡ some (record {
         taken = entry (permitOf (getD left i 0)) (variableAt b i) (fieldAt b i);
-        left = halvesOf (getD left i 0 - w) (variableAt b i) (fieldAt b i);
+        left = entryLeft (getD left i 0 - w) (variableAt b i) (fieldAt b i);
         list = leftIn b (set left i (getD left i 0 - w)) n;
       })
   left-first h l =
-      split-first (giving _~_ (permitOf w) y f) _ _ _ n i h (λ j g. at j (omega arith) false (F .before j g)) (at i h true (F .found h))
+      split-first (giving _~_ (permitOf w) t f) _ _ _ n i h (λ j g. at j (omega arith) false (F .before j g)) (at i h true (F .found h))
       (λ j m g. rw (getD-set-other left i j (getD left i 0 - w) 0 g)) (rw (getD-set-same left i (getD left i 0 - w) 0 l))

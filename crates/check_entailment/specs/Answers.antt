@@ -1,17 +1,19 @@
 -- What showing and adding answer and leave.
 use mathlib.Core.Path.{_≡_}
-use mathlib.Core.Bool.{Bool}
+use mathlib.Core.Bool.{Bool, cond}
 use mathlib.Core.List.{List, [], _∷_}
 use Prim.Native.Nat.{ℕ}
+use lib.Dec.{ltb}
 use Rattle.rules.specs.Base.{Try, ok, no}
 use Rattle.rules.specs.Answers.{Refusal, unresolved, noPermission, notShown, stateFull, malformed}
 use Rattle.rules.specs.Syntax as Syntax
-use Rattle.rules.specs.Syntax.{eq, ne, acc, read, own, cmp}
+use Rattle.rules.specs.Syntax.{eq, ne, acc, read, chain, own, cmp}
 use Rattle.rules.specs.State as Rules
-use Rattle.rules.specs.State.{Permission, equalIn, showFrom}
+use Rattle.rules.specs.State.{Permission, equalIn, takeOwn, showFrom}
+use Rattle.check_equality.specs.Layout.{acc-kind}
 use Rattle.check_equality.specs.Keys.{meaning}
 use Rattle.check_equality.specs.Links.{relOf}
-use Rattle.check_state.specs.States.{Wf, stateOf}
+use Rattle.check_state.specs.States.{Wf, stateOf, permitOf}
 use Rattle.check_entries.specs.Entries.{leftOf}
 use Rattle.check_entailment.specs.declared.Answer.{Answer}
 use Rattle.check_entailment.specs.declared.Atom.{Atom}
@@ -28,6 +30,7 @@ answered Answer.Malformed x = no malformed
 unfoldable pub atomOf : Atom → Syntax.Atom ℕ
 atomOf (Atom.Acc x f) = own acc x f
 atomOf (Atom.Read x f) = own read x f
+atomOf (Atom.Chain x f) = own chain x f
 atomOf (Atom.Eq l r) = cmp eq (meaning l) (meaning r)
 atomOf (Atom.Ne l r) = cmp ne (meaning l) (meaning r)
 
@@ -37,6 +40,15 @@ pub record Adds (t : Try Refusal Rules.State) (answer : Answer) (key b : List �
   pub same : answered answer (stateOf key b) ≡ t
 
 -- SHOWING
+-- the greatest kind that serves where this one is wanted
+unfoldable pub mostServing : ℕ → ℕ
+mostServing want = cond (ltb want acc-kind) acc-kind want
+
+-- an atom of the kind `want` by f of t is taken from what is left of the entries, and what is left of them then
+abbrev pub Takes : List ℕ → List ℕ → List ℕ → ℕ → Rules.Term → ℕ → Answer → List ℕ → Type 0
+Takes key b left want t f answer left′ =
+    answered answer (leftOf b left′) ≡ takeOwn (equalIn (stateOf key b)) (permitOf want) t f (leftOf b left)
+
 -- one atom shown by what is left of the entries, and what is left of them then
 abbrev pub ShowsAtom : List ℕ → List ℕ → List ℕ → Syntax.Atom ℕ → Answer → List ℕ → Type 0
 ShowsAtom key b left a answer left′ =

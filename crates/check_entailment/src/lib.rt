@@ -5,19 +5,21 @@ use check_state::Resolved;
 use rules::Machine;
 ghost use mathlib.Core.Path.{_≡_};
 ghost use mathlib.Core.List.{List};
-ghost use Prim.Native.Nat.{ℕ, _-_, _≤_};
+ghost use mathlib.Core.Bool.{not, _&&_};
+ghost use mathlib.Core.Option.{none};
+ghost use Prim.Native.Nat.{ℕ, _≤_};
 ghost use lib.ListN.{length};
 ghost use lib.Dec.{eqb};
 ghost use Rattle.rules.specs.Limits.{most-permissions};
 ghost use Rattle.rules.specs.Syntax as Syntax;
 ghost use Rattle.rules.specs.State as Rules;
-ghost use Rattle.check_equality.specs.Layout.{bytes, acc-kind};
+ghost use Rattle.rules.specs.State.{equalIn};
+ghost use Rattle.check_equality.specs.Layout.{bytes};
 ghost use Rattle.check_equality.specs.Keys.{termOf, meaning};
 ghost use Rattle.check_equality.specs.Links.{relOf};
-ghost use Rattle.check_state.specs.States.{Wf, stateOf, entries, kindAt, permitOf, IsKind, KindsIn};
-ghost use Rattle.check_state.specs.Questions.{Bytes};
+ghost use Rattle.check_state.specs.States.{Wf, stateOf, entries, permitOf, IsKind};
 ghost use Rattle.check_entries.specs.Entries.{LeftFits};
-ghost use Rattle.check_entailment.specs.Answers.{Adds, ShowsAtom, ShowsRelation, AddsAtom, atomOf};
+ghost use Rattle.check_entailment.specs.Answers.{Adds, answered, mostServing, Takes, ShowsAtom, ShowsRelation, AddsAtom, atomOf};
 
 pub enum Answer {
     Done,
@@ -31,6 +33,7 @@ pub enum Answer {
 pub enum Atom {
     Acc(u8, u8),
     Read(u8, u8),
+    Chain(u8, u8),
     Eq(Term, Term),
     Ne(Term, Term),
 }
@@ -56,28 +59,15 @@ pub fn add_permission(b: &mut [u8; State::BYTES], k: u8, x: u8, f: u8) -> Answer
     Answer::Done
 }
 
-// The halves that each entry lacks.
-fn lacking(b: &[u8; State::BYTES], n: usize) -> [u8; Machine::PERMISSIONS]
-    requires { ⌜ (n ≤ most-permissions) × KindsIn (now b) n ⌝ }
-    ensures { λ r. ⌜ Bytes (λ i. acc-kind - kindAt (now (b .entry)) i) n r ⌝ }
-{
-    let mut halves = [0; Machine::PERMISSIONS];
-    let mut i = 0;
-    while i < n {
-        halves[i] = State::ACC - b[State::KINDS + i];
-        i += 1;
-    }
-    halves
-}
-
-// `read x f`: the first entry of an equal path that lacks a half is an `acc` then, or else there is one more entry.
+// `read x f`: the first `read` of an equal path is an `acc` then, or else there is one more entry.
 fn add_read(key: &[u64; State::SLOTS], b: &mut [u8; State::BYTES], x: u8, f: u8) -> Answer
     requires { ⌜ Wf (now key) (now b) ⌝ }
     ensures { λ r. ⌜ Adds (Rules.addOwn Syntax.read x f (stateOf (now (key .entry)) (now (b .entry)))) r (now (key .entry)) (now (b .exit)) ⌝ }
 {
     let n = b[State::ENTRIES] as usize;
-    let halves = lacking(b, n);
-    let i = check_state::entry(key, b, &halves, State::READ, x, f);
+    let kinds = check_state::kinds(b);
+    let k = check_equality::variable_key(x);
+    let i = check_state::entry(key, b, &kinds, State::READ, State::READ, k, f);
     if n <= i {
         return add_permission(b, State::READ, x, f);
     }
@@ -112,7 +102,68 @@ pub fn add_fact(
     Answer::Done
 }
 
-// `acc y f`, which wants both halves, or `read y f`, which wants one: they are taken from the first entry that has them left.
+// The greatest kind that serves where this one is wanted: an `acc` serves for a `read`.
+fn most_serving(want: u8) -> u8
+    ensures { λ r. ⌜ r ≡ mostServing want ⌝ }
+{
+    if want < State::ACC { State::ACC } else { want }
+}
+
+fn permitted(shown: bool) -> Answer
+    ensures { λ r. ⌜ ((kept : List Rules.Permission) → answered r kept ≡ Rules.shownBy shown kept none) ⌝ }
+{
+    if shown {
+        Answer::Done
+    } else {
+        Answer::NoPermission
+    }
+}
+
+// Where no entry serves, a chain of the term of k is shown if that is ~ null.
+fn shown_by_null<'a>(
+    key: &'a [u64; State::SLOTS],
+    b: &'a [u8; State::BYTES],
+    want: u8,
+    k: u64,
+) -> bool
+    requires { ⌜ Wf (now key) (now b) ⌝ }
+    ensures { λ r. ⌜ r ≡ (not (Syntax.isPath (permitOf want)) && equalIn (stateOf (now (key .entry)) (now (b .entry))) Syntax.null (termOf k)) ⌝ }
+{
+    if want < State::CHAIN {
+        return false;
+    }
+    check_state::equal(key, b, State::NULL_KEY, k)
+}
+
+// `acc`, `read` or `chain`, by its kind, with the field f and the term of k: taken from the first entry that has as much left.
+pub fn take<'a>(
+    key: &'a [u64; State::SLOTS],
+    b: &'a [u8; State::BYTES],
+    left: [u8; Machine::PERMISSIONS],
+    want: u8,
+    k: u64,
+    f: u8,
+) -> Shown
+    requires { ⌜ Wf (now key) (now b) × LeftFits (now b) left × IsKind want ⌝ }
+    ensures { λ r. ⌜ LeftFits (now (b .entry)) (r .left) × Takes (now (key .entry)) (now (b .entry)) left want (termOf k) f (r .answer) (r .left) ⌝ }
+{
+    let i = check_state::entry(key, b, &left, want, most_serving(want), k, f);
+    if i < (b[State::ENTRIES] as usize) {
+        let mut after = left;
+        after[i] = left[i] - want;
+        return Shown {
+            answer: Answer::Done,
+            left: after,
+        };
+    }
+    let shown = shown_by_null(key, b, want, k);
+    Shown {
+        answer: permitted(shown),
+        left,
+    }
+}
+
+// The same of the variable y.
 fn show_access<'a>(
     key: &'a [u64; State::SLOTS],
     b: &'a [u8; State::BYTES],
@@ -124,19 +175,7 @@ fn show_access<'a>(
     requires { ⌜ Wf (now key) (now b) × LeftFits (now b) left × IsKind want ⌝ }
     ensures { λ r. ⌜ LeftFits (now (b .entry)) (r .left) × ShowsAtom (now (key .entry)) (now (b .entry)) left (Syntax.own (permitOf want) y f) (r .answer) (r .left) ⌝ }
 {
-    let i = check_state::entry(key, b, &left, want, y, f);
-    if i < (b[State::ENTRIES] as usize) {
-        let mut after = left;
-        after[i] = left[i] - want;
-        return Shown {
-            answer: Answer::Done,
-            left: after,
-        };
-    }
-    Shown {
-        answer: Answer::NoPermission,
-        left,
-    }
+    take(key, b, left, want, check_equality::variable_key(y), f)
 }
 
 // `eq`, or where `apart` `ne`.
@@ -175,6 +214,7 @@ pub fn show_atom<'a>(
     match a {
         Atom::Acc(y, f) => show_access(key, b, left, State::ACC, y, f),
         Atom::Read(y, f) => show_access(key, b, left, State::READ, y, f),
+        Atom::Chain(y, f) => show_access(key, b, left, State::CHAIN, y, f),
         Atom::Eq(l, r) => Shown {
             answer: show_relation(key, b, false, l, r),
             left,
@@ -214,6 +254,7 @@ pub fn add_atom(key: &mut [u64; State::SLOTS], b: &mut [u8; State::BYTES], a: At
     match a {
         Atom::Acc(x, f) => add_permission(b, State::ACC, x, f),
         Atom::Read(x, f) => add_read(key, b, x, f),
+        Atom::Chain(x, f) => add_permission(b, State::CHAIN, x, f),
         Atom::Eq(l, r) => add_relation(key, b, false, l, r),
         Atom::Ne(l, r) => add_relation(key, b, true, l, r),
     }

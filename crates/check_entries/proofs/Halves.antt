@@ -15,7 +15,7 @@ use Rattle.rules.proofs.Lists.{decide-eq}
 use Rattle.check_equality.specs.Listing.{listed}
 use Rattle.check_equality.specs.Layout.{variables-at, fields-at, kinds-at}
 use Rattle.check_state.specs.States.{variableAt, fieldAt, kindAt, permitOf, permissionAt, permissionsIn, KindsIn}
-use Rattle.check_entries.specs.Entries.{kept, halvesOf, appended, leftIn, kindLeft, StoredLeft, OutBy}
+use Rattle.check_entries.specs.Entries.{kept, entryLeft, appended, leftIn, kindLeft, StoredLeft, OutBy}
 
 -- the same parts
 pub appended-same : {A : Type 0} (p q : ℕ → List A) (n : ℕ) → ((i : ℕ) → i < n → p i ≡ q i) → appended p n ≡ appended q n
@@ -29,14 +29,14 @@ unfolding appended listed
 appended-listed f zero = refl
 appended-listed {A = A} f (suc n) = ap (λ (l : List A). l ++ (f n ∷ [])) (appended-listed f n)
 
-kept-parts : {A : Type 0} (out : List Bool) (f : ℕ → A) (n : ℕ) → kept out f n ≡ appended (λ i. cond (getD out i false) [] (f i ∷ [])) n
+pub kept-parts : {A : Type 0} (out : List Bool) (f : ℕ → A) (n : ℕ) → kept out f n ≡ appended (λ i. cond (getD out i false) [] (f i ∷ [])) n
 unfolding kept appended
 kept-parts out f zero = refl
 kept-parts {A = A} out f (suc n) = ap (λ (l : List A). l ++ cond (getD out n false) [] (f n ∷ [])) (kept-parts out f n)
 
 -- all is left that there is
 pub all-left : (b left : List ℕ) (n : ℕ) → ((i : ℕ) → i < n → getD left i 0 ≡ kindAt b i) → KindsIn b n → leftIn b left n ≡ permissionsIn b n
-unfolding halvesOf
+unfolding entryLeft
 all-left b left n e K =
     appended-same _ (λ i. permissionAt b i ∷ []) n (λ i h. rw (e i h, ne-eqb (kindAt b i) 0 (λ d. omega (arith, K i h .0, d))))
     ∙ appended-listed (permissionAt b) n
@@ -62,13 +62,13 @@ stored-more b₀ left i b v h S e =
 pub stored-left :
     (b left b′ : List ℕ) (out : List Bool) (n : ℕ) → n ≤ most-permissions → StoredLeft b left most-permissions b′ → OutBy left most-permissions out →
     kept out (permissionAt b′) n ≡ leftIn b left n
-unfolding halvesOf kindLeft
+unfolding entryLeft kindLeft
 stored-left b left b′ out n h S O = kept-parts out (permissionAt b′) n ∙ appended-same _ _ n one
   where
     low : (s i : ℕ) → s + i < kinds-at → getD b′ (s + i) 0 ≡ getD b (s + i) 0
     low s i g = S .rest (s + i) (inl g)
 
-    one : (i : ℕ) → i < n → cond (getD out i false) [] (permissionAt b′ i ∷ []) ≡ halvesOf (getD left i 0) (variableAt b i) (fieldAt b i)
+    one : (i : ℕ) → i < n → cond (getD out i false) [] (permissionAt b′ i ∷ []) ≡ entryLeft (getD left i 0) (variableAt b i) (fieldAt b i)
     one i g = rw (O .at i (omega arith), S .kinds i (omega arith), low variables-at i (omega arith), low fields-at i (omega arith)) (go (eqb (getD left i 0) 0))
       where
         go :

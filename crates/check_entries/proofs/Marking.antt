@@ -16,7 +16,7 @@ use Rattle.check_equality.specs.Links.{placeOf, Marks}
 use Rattle.check_equality.specs.Listing.{listed}
 use Rattle.check_equality.proofs.Keys.{back}
 use Rattle.check_equality.proofs.Listing.{any-append}
-use Rattle.check_state.specs.States.{variableAt, fieldAt}
+use Rattle.check_state.specs.States.{variableAt, fieldAt, isPathAt}
 use Rattle.check_state.specs.Questions.{places}
 use Rattle.check_entries.specs.PathsOut.{pathOut, pathOutAt, placeOfPath, MarksOut}
 
@@ -42,11 +42,12 @@ pub unmarked-path :
     (b : List ℕ) (out : List Bool) (n : ℕ) (marks : List Bool) (k p : ℕ) → MarksOut b out n marks → p ≡ placeOf k → getD marks p false ≡ false →
     any (pathOutAt b out k) (places n) ≡ false
 unfolding pathOut
-unmarked-path b out n marks k p M q e = all-false (pathOutAt b out k) n (λ i h. at i h (getD out i false) (Syntax.same (path (variableAt b i) (fieldAt b i)) (termOf k)) refl refl)
+unmarked-path b out n marks k p M q e = all-false (pathOutAt b out k) n (λ i h. at i h (getD out i false) (isPathAt b i) (Syntax.same (path (variableAt b i) (fieldAt b i)) (termOf k)) refl refl)
   where
-    at : (i : ℕ) → i < n → (o s : Bool) → getD out i false ≡ o → Syntax.same (path (variableAt b i) (fieldAt b i)) (termOf k) ≡ s → (o && s) ≡ false
-    at i h false s d g = refl
-    at i h true false d g = refl
-    at i h true true d g =
+    at : (i : ℕ) → i < n → (o p s : Bool) → getD out i false ≡ o → Syntax.same (path (variableAt b i) (fieldAt b i)) (termOf k) ≡ s → ((o && p) && s) ≡ false
+    at i h false p s d g = refl
+    at i h true false s d g = refl
+    at i h true true false d g = refl
+    at i h true true true d g =
         let r : keyOf (path (variableAt b i) (fieldAt b i)) ≡ k = ap keyOf (same→≡ _ _ (rw g tt)) ∙ back k in
         clash (sym e ∙ ap (λ (z : ℕ). getD marks z false) (q ∙ ap placeOf (sym r)) ∙ M .at i h d)

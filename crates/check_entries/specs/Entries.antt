@@ -8,7 +8,7 @@ use lib.Dec.{eqb}
 use lib.ListN.{length, getD}
 use Rattle.rules.specs.Limits.{most-permissions}
 use Rattle.rules.specs.State.{Permission, entry}
-use Rattle.check_equality.specs.Layout.{variables-at, fact-count, kinds-at, bytes}
+use Rattle.check_equality.specs.Layout.{variables-at, fact-count, kinds-at, bytes, chain-kind}
 use Rattle.check_state.specs.States.{entries, variableAt, fieldAt, permitOf, permissionsIn, permissionsOf, permissionAt, kindAt, IsKind, KindsIn}
 
 -- LISTS OF WHICH SOME ELEMENTS ARE OUT
@@ -23,28 +23,29 @@ pub record Flags (test : ℕ → Bool) (n : ℕ) (r : List Bool) : Type 0 where
   pub at : (i : ℕ) → i < n → getD r i false ≡ test i
 
 -- WHAT A FORMULA LEAVES
--- so many halves of `x.f`, as an entry or none
-unfoldable pub halvesOf : ℕ → ℕ → ℕ → List Permission
-halvesOf k x f = cond (eqb k 0) [] (entry (permitOf k) x f ∷ [])
+-- what is left of an entry by f of x: one of the kind k, or none where that is 0
+unfoldable pub entryLeft : ℕ → ℕ → ℕ → List Permission
+entryLeft k x f = cond (eqb k 0) [] (entry (permitOf k) x f ∷ [])
 
 -- part 0 to part (n - 1), one after the other
 unfoldable pub appended : {A : Type 0} → (ℕ → List A) → ℕ → List A
 appended part zero = []
 appended part (suc n) = appended part n ++ part n
 
--- what is left of the first n entries, where `left` has the halves left of each
+-- what is left of the first n entries, where `left` has the kinds of what is left of each
 abbrev pub leftIn : List ℕ → List ℕ → ℕ → List Permission
-leftIn b left n = appended (λ i. halvesOf (getD left i 0) (variableAt b i) (fieldAt b i)) n
+leftIn b left n = appended (λ i. entryLeft (getD left i 0) (variableAt b i) (fieldAt b i)) n
 
 abbrev pub leftOf : List ℕ → List ℕ → List Permission
 leftOf b left = leftIn b left (entries b)
 
--- no entry has more left than it owns
+-- no path has more halves left than it owns, and a chain is left whole or not at all
 pub record LeftFits (b left : List ℕ) : Type 0 where
   pub size : length left ≡ most-permissions
   pub most : (i : ℕ) → i < entries b → getD left i 0 ≤ kindAt b i
+  pub whole : (i : ℕ) → i < entries b → chain-kind ≤ kindAt b i → (getD left i 0 ≡ 0) ⊎ (getD left i 0 ≡ chain-kind)
 
--- the kind of an entry of which so many halves are left: one that is out keeps its own
+-- the kind of an entry of which this is left: one that is out keeps its own
 unfoldable pub kindLeft : ℕ → ℕ → ℕ
 kindLeft left k = cond (eqb left 0) k left
 

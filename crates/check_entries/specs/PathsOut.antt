@@ -1,4 +1,4 @@
--- The paths of entries that are out, and which of them are dropped: those that no other entry has.
+-- The listed paths that are out, and which of them are dropped: those that no other entry has.
 use mathlib.Core.Path.{_≡_}
 use mathlib.Core.Bool.{Bool, true, false, cond, not, _&&_}
 use mathlib.Core.List.{List}
@@ -11,26 +11,26 @@ use Rattle.rules.specs.State as Rules
 use Rattle.check_equality.specs.Layout.{mark-count}
 use Rattle.check_equality.specs.Keys.{termOf, keyOf}
 use Rattle.check_equality.specs.Links.{placeOf}
-use Rattle.check_state.specs.States.{entries, variableAt, fieldAt, pathAtEntry}
+use Rattle.check_state.specs.States.{entries, variableAt, fieldAt, isPathAt, leftAt, pathAtEntry}
 use Rattle.check_state.specs.Questions.{places}
 
--- the entry `x.f` is out, and its path is the term of k
+-- the path `x.f` is out, and is the term of k
 unfoldable pub pathOut : Bool → ℕ → ℕ → ℕ → Bool
 pathOut out x f k = out && Syntax.same (Syntax.path x f) (termOf k)
 
 abbrev pub pathOutAt : List ℕ → List Bool → ℕ → ℕ → Bool
-pathOutAt b out k i = pathOut (getD out i false) (variableAt b i) (fieldAt b i) k
+pathOutAt b out k i = pathOut (getD out i false && isPathAt b i) (variableAt b i) (fieldAt b i) k
 
--- the entry i is out (where `kept`: it is not out), and its path is the term of k
+-- the entry i is a path that is out (where `kept`: that is not out), and is the term of k
 abbrev pub pathWith : List ℕ → List Bool → Bool → ℕ → ℕ → Bool
-pathWith b out kept k i = pathOut (cond kept (not (getD out i false)) (getD out i false)) (variableAt b i) (fieldAt b i) k
+pathWith b out kept k i = pathOut (cond kept (not (getD out i false)) (getD out i false) && isPathAt b i) (variableAt b i) (fieldAt b i) k
 
 abbrev pub keyOut : List ℕ → List Bool → ℕ → Bool
 keyOut b out k = any (pathOutAt b out k) (places (entries b))
 
--- the entry i is not out, and its path is t
+-- the entry i is a path that is not out, and is t
 unfoldable pub keptNames : List ℕ → List Bool → Rules.Term → ℕ → Bool
-keptNames b out t i = not (getD out i false) && Syntax.same (pathAtEntry b i) t
+keptNames b out t i = leftAt b out i && Syntax.same (pathAtEntry b i) t
 
 -- the path of the key is dropped: an entry that is out has it, and no other
 abbrev pub keyDropped : List ℕ → List Bool → ℕ → Bool
@@ -38,7 +38,7 @@ keyDropped b out k = keyOut b out k && not (any (keptNames b out (termOf k)) (pl
 
 -- the path of the entry i is, among n
 abbrev pub droppedAt : List ℕ → List Bool → ℕ → ℕ → Bool
-droppedAt b out n i = getD out i false && not (any (keptNames b out (pathAtEntry b i)) (places n))
+droppedAt b out n i = (getD out i false && isPathAt b i) && not (any (keptNames b out (pathAtEntry b i)) (places n))
 
 -- the place of a path's key
 abbrev pub placeOfPath : ℕ → ℕ → ℕ

@@ -59,7 +59,7 @@ fn kind_left(left: u8, k: u8) -> u8
     if left == 0 { k } else { left }
 }
 
-// Stores the halves left of each entry; which are out then: those of which nothing is left.
+// Stores the kinds of what is left of each entry; which are out then: those of which nothing is left.
 pub fn store_left(
     b: &mut [u8; State::BYTES],
     left: &[u8; Machine::PERMISSIONS],

@@ -1,4 +1,4 @@
-// Which keys are those of entries that are out, by marks; and which of these are dropped: those that no other entry has.
+// Which keys are those of listed paths that are out, by marks; and which of these are dropped: those that no other has.
 use check_equality::State;
 use rules::Machine;
 ghost use mathlib.Core.Path.{_≡_};
@@ -21,17 +21,17 @@ fn path_out(out: bool, x: u8, f: u8, k: u64) -> bool
     false
 }
 
-// Is an entry out (where `kept`: is it not out), and its path the term of k?
-fn path_with(kept: bool, out: bool, x: u8, f: u8, k: u64) -> bool
-    ensures { λ r. ⌜ r ≡ pathOut (cond kept (not out) out) x f k ⌝ }
+// Is an entry a listed path and out (where `kept`: and not out), and its path the term of k?
+fn path_with(kept: bool, out: bool, listed: bool, x: u8, f: u8, k: u64) -> bool
+    ensures { λ r. ⌜ r ≡ pathOut (cond kept (not out) out && listed) x f k ⌝ }
 {
     if kept {
-        return path_out(!out, x, f, k);
+        return path_out(!out & listed, x, f, k);
     }
-    path_out(out, x, f, k)
+    path_out(out & listed, x, f, k)
 }
 
-// Is a key that of an entry that is out, or, where `kept`, of one that is not?
+// Is a key that of a listed path that is out, or, where `kept`, of one that is not?
 fn names_with<'a>(
     b: &'a [u8; State::BYTES],
     out: &'a [bool; Machine::PERMISSIONS],
@@ -47,6 +47,7 @@ fn names_with<'a>(
         if path_with(
             kept,
             out[i],
+            b[State::KINDS + i] < State::CHAIN,
             b[State::VARIABLES + i],
             b[State::FIELDS + i],
             k,
@@ -77,7 +78,7 @@ pub fn marks_out<'a>(
     marks
 }
 
-// Is a key that of an entry that is out? The marks are looked at first.
+// Is a key that of a listed path that is out? The marks are looked at first.
 fn names_marked<'a>(
     b: &'a [u8; State::BYTES],
     out: &'a [bool; Machine::PERMISSIONS],
@@ -95,7 +96,7 @@ fn names_marked<'a>(
     false
 }
 
-// Is a key that of an entry that is out, and of no other?
+// Is a key that of a listed path that is out, and of no other?
 pub fn names_dropped<'a>(
     b: &'a [u8; State::BYTES],
     out: &'a [bool; Machine::PERMISSIONS],
@@ -112,7 +113,7 @@ pub fn names_dropped<'a>(
     false
 }
 
-// Is an entry x.f out, and its path that of no entry that is not?
+// Is a listed path x.f out, and that of no entry that is not?
 fn drops_entry<'a>(
     b: &'a [u8; State::BYTES],
     out: &'a [bool; Machine::PERMISSIONS],
@@ -145,7 +146,7 @@ pub fn drops_some<'a>(
             b,
             out,
             n,
-            out[i],
+            out[i] & (b[State::KINDS + i] < State::CHAIN),
             b[State::VARIABLES + i],
             b[State::FIELDS + i],
         ) {

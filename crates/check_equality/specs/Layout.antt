@@ -43,12 +43,15 @@ kinds-at = 338
 abbrev pub bytes : ℕ
 bytes = 402
 
--- KINDS of entries: the halves that they own
+-- KINDS of entries: that of a listed path is the number of its halves; chains, which are no paths, come after these
 abbrev pub read-kind : ℕ
 read-kind = 1
 
 abbrev pub acc-kind : ℕ
 acc-kind = 2
+
+abbrev pub chain-kind : ℕ
+chain-kind = 3
 
 -- MARKS: the places of keys
 abbrev pub mark-count : ℕ
@@ -75,5 +78,6 @@ offsets =
       bytes = bytes;
       read = read-kind;
       acc = acc-kind;
+      chain = chain-kind;
       marks = mark-count;
     }

@@ -31,6 +31,7 @@ pub struct State {
     pub bytes: usize,
     pub read: u8,
     pub acc: u8,
+    pub chain: u8,
     pub marks: usize,
 }
 
@@ -66,10 +67,12 @@ impl State {
 
     pub const BYTES: usize = 402;
 
-    // The kind of an entry is the number of its halves: a `read` is one, an `acc` both.
+    // The kind of an entry. That of a listed path is the number of its halves: a `read` is one, an `acc` both. A chain is no path.
     pub const READ: u8 = 1;
 
     pub const ACC: u8 = 2;
+
+    pub const CHAIN: u8 = 3;
 
     // Marks: one for each place of a key.
     pub const MARKS: usize = 512;
@@ -119,6 +122,7 @@ impl State {
             bytes: State::BYTES,
             read: State::READ,
             acc: State::ACC,
+            chain: State::CHAIN,
             marks: State::MARKS,
         }
     }

@@ -9,19 +9,19 @@ use native.Mathlib.Omega.{arith}
 use lib.Dec.{eqb}
 use lib.ListN.{getD}
 use borrow.Author.Tests.{eqb-true, eqb-false}
-use Rattle.rules.specs.Base.{any, bindOption, mapOption}
+use Rattle.rules.specs.Base.{bindOption}
 use Rattle.rules.specs.Syntax as Syntax
 use Rattle.rules.specs.Syntax.{path}
 use Rattle.rules.specs.State as Rules
-use Rattle.rules.specs.State.{Permission, Fact, entry, pathOf, lists, withoutPaths, renameVariable, renameTerm, renamePermission, renamePermissions}
+use Rattle.rules.specs.State.{Permission, Fact, entry, pathOf, withoutPaths, renameVariable, renameTerm, renamePermission, renamePermissions}
 use Rattle.rules.proofs.Lists.{some-inj, none-some, bind-some}
 use Rattle.rules.proofs.Successors.{without-is}
 use Rattle.check_equality.specs.Keys.{termOf}
 use Rattle.check_equality.specs.Listing.{listed}
 use Rattle.check_equality.proofs.Keys.{same-key}
-use Rattle.check_equality.proofs.Listing.{listed-same, or-false}
+use Rattle.check_equality.proofs.Listing.{listed-same}
 use Rattle.check_equality.specs.Layout.{variables-at, fields-at, kinds-at, fact-count, entry-count}
-use Rattle.check_state.specs.States.{Wf, stateOf, entries, factsOf, variableAt, fieldAt, kindAt, permitOf, permissionAt, permissionsIn, permissionsOf, pathAtEntry}
+use Rattle.check_state.specs.States.{Wf, stateOf, entries, factsOf, variableAt, fieldAt, kindAt, permitOf, permissionAt, permissionsIn, permissionsOf, isPathAt, pathAtEntry}
 use Rattle.check_successors.specs.Successors.{Drops}
 use Rattle.check_forgetting.specs.Changes.{Becomes, withoutPath}
 use Rattle.check_dropping.specs.Dropping.{Forgettable, Forgot, Renamed}
@@ -29,9 +29,11 @@ use Rattle.check_entries.specs.Entries.{RenamedEntries, Packed, Flags, renamedV
 use Rattle.check_scans.specs.Sides.{renamedKey, mentionsKey}
 use Rattle.check_scans.proofs.Renaming.{gone-term, renamed-term}
 use Rattle.check_entries.proofs.Keeping.{kept-same, kept-all, kept-map}
+use Rattle.check_state.proofs.Entries.{path-kind}
 use Rattle.check_state.proofs.Writing.{entries-same, kinds-same, same-linked, same-facts}
 use Rattle.check_dropping.proofs.GivingWay.{gave, named}
-use Rattle.check_forgetting.proofs.Droppings.{path-drops, removed-drops}
+use Rattle.check_forgetting.proofs.Unlisted.{lists-one}
+use Rattle.check_forgetting.proofs.Droppings.{path-drops, kept-entries, removed-drops}
 
 -- FACTS AND ENTRIES, one after the other: key₁ and b₁ have the facts, and the entries are as they were
 module _ (key b key₁ b₁ : List ℕ) (w : Wf key b) (w₁ : Wf key₁ b₁) (rest : (i : ℕ) → variables-at ≤ i → (i ≡ fact-count → ⊥) → getD b₁ i 0 ≡ getD b i 0) where
@@ -97,10 +99,10 @@ module _ (key b key₁ b₁ : List ℕ) (w : Wf key b) (w₁ : Wf key₁ b₁) (
 -- WITHOUT A PATH
 -- k is the key of the path of entry i
 path-term :
-    (b : List ℕ) (i k : ℕ) → termOf k ≡ path (variableAt b i) (fieldAt b i) → (l : ℕ) →
+    (b : List ℕ) (i k : ℕ) → isPathAt b i ≡ true → termOf k ≡ path (variableAt b i) (fieldAt b i) → (l : ℕ) →
     withoutPaths (permissionAt b i ∷ []) (termOf l) ≡ cond (eqb l k) none (some (termOf l))
-unfolding withoutPaths lists any pathOf
-path-term b i k e l = ap (λ (c : Bool). cond c none (some (termOf l))) (or-false _ ∙ is)
+unfolding withoutPaths pathOf
+path-term b i k p e l = ap (λ (c : Bool). cond c none (some (termOf l))) (lists-one (permissionAt b i) (termOf l) (path-kind (kindAt b i) ∙ p) ∙ is)
   where
     flip : (a c : Bool) → eqb k l ≡ a → eqb l k ≡ c → a ≡ c
     flip true true p q = refl
@@ -111,14 +113,14 @@ path-term b i k e l = ap (λ (c : Bool). cond c none (some (termOf l))) (or-fals
     is : Syntax.same (pathOf (permissionAt b i)) (termOf l) ≡ eqb l k
     is = ap (λ (t : Rules.Term). Syntax.same t (termOf l)) (sym e) ∙ same-key k l ∙ flip (eqb k l) (eqb l k) refl refl
 
-module _ (key b : List ℕ) (skip : List Bool) (i k : ℕ) (e : termOf k ≡ path (variableAt b i) (fieldAt b i))
+module _ (key b : List ℕ) (skip : List Bool) (i k : ℕ) (p : isPathAt b i ≡ true) (e : termOf k ≡ path (variableAt b i) (fieldAt b i))
     (G : Flags (λ j. Syntax.same (termOf k) (pathAtEntry b j)) (entries b) skip) where
   abbrev ρ : Rules.Renaming
   ρ = withoutPaths (permissionAt b i ∷ [])
 
   ρ-drops : Drops ρ (permissionsOf b) b skip 255
   unfolding pathOf
-  ρ-drops = path-drops (permissionAt b i) b skip (λ j h. G .at j h ∙ ap (λ (t : Rules.Term). Syntax.same t (pathAtEntry b j)) e)
+  ρ-drops = path-drops (permissionAt b i) (path-kind (kindAt b i) ∙ p) b skip (λ j h. G .at j h ∙ ap (λ (t : Rules.Term). Syntax.same t (pathAtEntry b j)) e)
 
   pub path-forgettable : Forgettable (λ l. eqb l k) key b skip 255
   path-forgettable =
@@ -127,7 +129,7 @@ module _ (key b : List ℕ) (skip : List Bool) (i k : ℕ) (e : termOf k ≡ pat
         ps = permissionsOf b;
         plain = λ t u d. without-is (permissionAt b i ∷ []) t u d .1;
         drops = ρ-drops;
-        sides = λ j a h. path-term b i k e (getD key j 0);
+        sides = λ j a h. path-term b i k p e (getD key j 0);
       }
 
   pub path-law : (key′ b′ : List ℕ) → Wf key b → Forgot (λ l. eqb l k) key b skip 255 key′ b′ → Becomes (withoutPath key b i) key′ b′
@@ -136,7 +138,7 @@ module _ (key b : List ℕ) (skip : List Bool) (i k : ℕ) (e : termOf k ≡ pat
       record {
         wf = F .wf;
         same = ap₂ (λ (ps : List Permission) (fs : List Fact). record { permissions = ps; facts = fs })
-            (same-entries key b key′ b′ w (F .wf) (F .rest)) (F .facts ρ (permissionsOf b) ρ-drops (λ j a h. path-term b i k e (getD key j 0)));
+            (same-entries key b key′ b′ w (F .wf) (F .rest)) (F .facts ρ (permissionsOf b) ρ-drops (λ j a h. path-term b i k p e (getD key j 0)));
       }
 
 -- REMOVED
@@ -184,25 +186,13 @@ module _ (key b : List ℕ) (x : ℕ) (h : x < 256) (w : Wf key b) where
         S _ _ x-drops ∙ sym (gave (stateOf key b) (renameTerm x none) (renamePermissions x none (permissionsOf b)) (termOf k) true (gone-term x h k ∙ rw m))
 
     module _ (key₁ b₁ b₂ : List ℕ) (F : Forgot (mentionsKey x) key b out x key₁ b₁) (P : Packed b₁ out b₂) where
-      entry-gone : (i : ℕ) → renamePermission x none (permissionAt b i) ≡ cond (eqb (variableAt b i) x) none (some (permissionAt b i))
-      unfolding renamePermission renameVariable bindOption
-      entry-gone i = go (eqb (variableAt b i) x)
-        where
-          go : (c : Bool) → bindOption (cond c none (some (variableAt b i))) (λ w. some (entry (permitOf (kindAt b i)) w (fieldAt b i))) ≡ cond c none (some (permissionAt b i))
-          go true = refl
-          go false = refl
-
-      kept-entries : mapOption (renamePermission x none) (permissionsOf b) ≡ kept out (permissionAt b) (entries b)
-      kept-entries =
-          kept-map (renamePermission x none) out (permissionAt b) (permissionAt b) (entries b) (λ i g. entry-gone i ∙ ap (λ (c : Bool). cond c none (some (permissionAt b i))) (sym (G .at i g)))
-
       pub erase-law : Becomes (Rules.removeTo x none (stateOf key b)) key₁ b₂
-      unfolding Rules.removeTo Rules.removedTerm Rules.renamePermissions
+      unfolding Rules.removeTo Rules.removedTerm
       erase-law =
           record {
             wf = packed-wf key b key₁ b₁ w (F .wf) (F .rest) b₂ out P;
             same = ap₂ (λ (ps : List Permission) (fs : List Fact). record { permissions = ps; facts = fs })
-                (packed-entries key b key₁ b₁ w (F .wf) (F .rest) b₂ out P ∙ sym kept-entries)
+                (packed-entries key b key₁ b₁ w (F .wf) (F .rest) b₂ out P ∙ sym (kept-entries x b out (λ i g. G .at i g)))
                 (packed-facts key b key₁ b₁ w (F .wf) (F .rest) b₂ out P
                 ∙ F .facts (renameTerm x none) (renamePermissions x none (permissionsOf b)) x-drops (λ j a l. gone-term x h (getD key j 0)));
           }

@@ -1,32 +1,34 @@
 -- A remainder: the entries of which nothing is left go, and their paths are dropped, but for names still listed.
 use mathlib.Core.Path.{_≡_, refl, sym, ap, ap₂, _∙_, subst}
 use mathlib.Core.Bool.{Bool, true, false, cond, not, _&&_, _||_}
-use mathlib.Core.List.{List, [], _∷_, map}
-use mathlib.Core.Option.{Option, none, some}
+use mathlib.Core.List.{List, [], _∷_}
+use mathlib.Core.Option.{none, some}
 use mathlib.Core.Logic.{_⊎_, inl, inr, ⊎-elim}
 use Prim.Native.Nat.{ℕ, zero, suc, _+_, _≤_, _<_}
 use native.Mathlib.Omega.{arith}
+use native.Mathlib.Decide.{decLt}
 use lib.ListN.{getD}
-use borrow.Author.Tests.{eq-eqb, ne-eqb}
-use Rattle.rules.specs.Base.{first, any, bindOption}
+use borrow.Author.Tests.{eq-eqb, ne-eqb, lt-ltb}
+use Rattle.rules.specs.Base.{any}
 use Rattle.rules.specs.Limits.{most-permissions}
 use Rattle.rules.specs.Syntax.{num, null, var, same}
 use Rattle.rules.specs.State as Rules
-use Rattle.rules.specs.State.{Term, Fact, Permission, State, Renaming, becomes, renameFacts, factsWithout, isLeft, pathOf, lists, unlisted, withoutPaths}
+use Rattle.rules.specs.State.{Term, Fact, Permission, State, becomes, renameFacts, factsWithout, pathOf, paths, lists, unlisted, withoutPaths}
 use Rattle.rules.proofs.Lists.{T-true, decide-eq}
 use Rattle.rules.proofs.Closure.{same-refl}
 use Rattle.rules.proofs.Successors.{without-is}
 use Rattle.check_equality.specs.Listing.{listed}
 use Rattle.check_equality.specs.Keys.{termOf}
-use Rattle.check_equality.specs.Layout.{variables-at, fields-at, kinds-at, fact-count, entry-count}
+use Rattle.check_equality.specs.Layout.{variables-at, fields-at, kinds-at, fact-count, entry-count, chain-kind}
 use Rattle.check_equality.proofs.Listing.{any-append, any-found}
 use Rattle.check_inequality.proofs.Searches.{any-same}
-use Rattle.check_state.specs.States.{Wf, stateOf, facts, entries, kindAt, permissionAt, permissionsIn, permissionsOf, pathAtEntry, IsKind}
+use Rattle.check_state.specs.States.{Wf, stateOf, facts, entries, kindAt, permissionAt, permissionsIn, permissionsOf, isPathAt, leftAt, pathAtEntry, IsKind}
 use Rattle.check_state.specs.Questions.{places}
+use Rattle.check_state.proofs.Entries.{path-kind}
 use Rattle.check_state.proofs.Writing.{entry-same, same-linked, same-facts}
 use Rattle.check_successors.specs.Successors.{Drops}
 use Rattle.check_entries.specs.Entries.{kept, kindLeft, leftOf, LeftFits, StoredLeft, OutBy, Packed}
-use Rattle.check_entries.specs.PathsOut.{keptNames, pathOut, keyDropped, droppedAt, OutMarked}
+use Rattle.check_entries.specs.PathsOut.{keptNames, pathOut, pathOutAt, keyDropped, droppedAt, OutMarked}
 use Rattle.check_entries.proofs.Halves.{stored-left}
 use Rattle.check_entries.proofs.Keeping.{kept-any}
 use Rattle.check_scans.specs.Scans.{Scanned, markedKey}
@@ -34,59 +36,26 @@ use Rattle.check_scans.proofs.Scanning.{scanned-less, unmarked-kept}
 use Rattle.check_dropping.specs.Dropping.{Forgettable, Forgot}
 use Rattle.check_dropping.proofs.Untouched.{scanned-forgot}
 use Rattle.check_forgetting.specs.Changes.{Becomes, ForgotOut, keptOf, droppedOf}
-use Rattle.check_forgetting.proofs.Droppings.{first-append-both, map-++}
+use Rattle.check_forgetting.proofs.Droppings.{kept-search}
 use Rattle.check_forgetting.proofs.Changes.{packed-facts, packed-entries, packed-wf}
-use Rattle.check_forgetting.proofs.Unlisted.{paths-left, lists-variable, lists-null, lists-number, and-false, lists-unlisted, any-keep, some-without, none-without, unlisted-same, facts-only}
+use Rattle.check_forgetting.proofs.Unlisted.{paths-left, isAt, lists-any, any-kept, lists-variable, lists-null, lists-number, and-false, and-true, lists-unlisted, some-without, none-without, unlisted-same, facts-only}
+
+and-assoc : (a b c : Bool) → ((a && b) && c) ≡ (a && (b && c))
+and-assoc true b c = refl
+and-assoc false b c = refl
 
 -- the entries kept list a path
 kept-lists : (b : List ℕ) (out : List Bool) (n : ℕ) (t : Term) → lists (kept out (permissionAt b) n) t ≡ any (keptNames b out t) (places n)
-unfolding lists keptNames pathOf
-kept-lists b out n t = kept-any (λ p. same (pathOf p) t) out (permissionAt b) n
+unfolding keptNames pathOf
+kept-lists b out n t =
+    lists-any (kept out (permissionAt b) n) t ∙ kept-any (isAt t) out (permissionAt b) n
+    ∙ any-same _ _ (λ i. i) (λ i. i) n (λ i h. rw (path-kind (kindAt b i)) (sym (and-assoc (not (getD out i false)) (isPathAt b i) (same (pathAtEntry b i) t))))
 
-still-listed : (b : List ℕ) (out : List Bool) (n i : ℕ) → i < n → getD out i false ≡ false → lists (kept out (permissionAt b) n) (pathAtEntry b i) ≡ true
+still-listed : (b : List ℕ) (out : List Bool) (n i : ℕ) → i < n → leftAt b out i ≡ true → lists (kept out (permissionAt b) n) (pathAtEntry b i) ≡ true
 unfolding keptNames
 still-listed b out n i h e =
     kept-lists b out n (pathAtEntry b i)
     ∙ any-found (keptNames b out (pathAtEntry b i)) (λ j. j) n i h (rw e (T-true (same (pathAtEntry b i) (pathAtEntry b i)) (same-refl (pathAtEntry b i))))
-
-module _ (ρ : Renaming) (b : List ℕ) (out : List Bool) (q : Term → Bool) where
-  entries-kept :
-      (n : ℕ) → ((i : ℕ) → i < n → getD out i false ≡ false → isLeft ρ (pathAtEntry b i) ≡ true) →
-      first (λ u. isLeft ρ u && q u) (map pathOf (kept out (permissionAt b) n))
-      ≡ bindOption (first (λ i. not (getD out i false) && q (pathAtEntry b i)) (places n)) (λ i. some (pathAtEntry b i))
-  unfolding kept listed first bindOption pathOf
-  entries-kept zero left = refl
-  entries-kept (suc n) left =
-      ap (first test) (map-++ pathOf (kept out (permissionAt b) n) (cond (getD out n false) [] (permissionAt b n ∷ [])))
-      ∙ first-append-both test (map pathOf (kept out (permissionAt b) n)) (map pathOf (cond (getD out n false) [] (permissionAt b n ∷ [])))
-      ∙ rw (entries-kept n (λ i h. left i (omega (arith, h))))
-      (last (first entry (places n)) ∙ ap (λ (o : Option ℕ). bindOption o (λ i. some (pathAtEntry b i))) (sym (first-append-both entry (places n) (n ∷ []))))
-    where
-      test : Term → Bool
-      test u = isLeft ρ u && q u
-
-      entry : ℕ → Bool
-      entry i = not (getD out i false) && q (pathAtEntry b i)
-
-      one :
-          (c : Bool) → (c ≡ false → isLeft ρ (pathAtEntry b n) ≡ true) →
-          first test (map pathOf (cond c [] (permissionAt b n ∷ [])))
-          ≡ bindOption (cond (not c && q (pathAtEntry b n)) (some n) none) (λ i. some (pathAtEntry b i))
-      one true l = refl
-      one false l = rw (l refl) (go (q (pathAtEntry b n)))
-        where
-          go :
-              (c : Bool) →
-              cond c (some (pathAtEntry b n)) none ≡ bindOption (cond c (some n) none) (λ i. some (pathAtEntry b i))
-          go true = refl
-          go false = refl
-
-      last :
-          (o : Option ℕ) →
-          elim (bindOption o (λ i. some (pathAtEntry b i))) [ none ↦ first test (map pathOf (cond (getD out n false) [] (permissionAt b n ∷ []))) | some a ↦ some a ]
-          ≡ bindOption (elim o [ none ↦ first entry (n ∷ []) | some a ↦ some a ]) (λ i. some (pathAtEntry b i))
-      last none = one (getD out n false) (left n (omega arith))
-      last (some i) = refl
 
 -- an entry that is out, or one that is not
 out-or-kept :
@@ -116,7 +85,7 @@ module _ (b : List ℕ) (out : List Bool) where
         numbers = λ n. paths-left (droppedOf b out) (num n) ∙ ap not (lists-number (droppedOf b out) n);
         paths =
             λ q.
-            entries-kept (withoutPaths (droppedOf b out)) b out q (entries b)
+            kept-search (withoutPaths (droppedOf b out)) b out q (entries b)
             (λ i h f.
             paths-left (droppedOf b out) (pathAtEntry b i)
             ∙ ap not
@@ -125,16 +94,20 @@ module _ (b : List ℕ) (out : List Bool) where
             ∙ and-false (lists (permissionsOf b) (pathAtEntry b i))));
       }
 
-  -- an entry that is not out is listed
-  drops-at : (i : ℕ) → i < entries b → (c : Bool) → getD out i false ≡ c → not (lists (keptOf b out) (pathAtEntry b i)) ≡ (c && not (any (keptNames b out (pathAtEntry b i)) (places (entries b))))
-  drops-at i h true e = ap not (kept-lists b out (entries b) (pathAtEntry b i))
-  drops-at i h false e = ap not (still-listed b out (entries b) i h e)
+  -- a path that is not out is listed
+  drops-at :
+      (i : ℕ) → i < entries b → (p o : Bool) → isPathAt b i ≡ p → getD out i false ≡ o →
+      (p && (not (lists (keptOf b out) (pathAtEntry b i)) && true)) ≡ ((o && p) && not (any (keptNames b out (pathAtEntry b i)) (places (entries b))))
+  drops-at i h false true e d = refl
+  drops-at i h false false e d = refl
+  drops-at i h true true e d = and-true (not (lists (keptOf b out) (pathAtEntry b i))) ∙ ap not (kept-lists b out (entries b) (pathAtEntry b i))
+  drops-at i h true false e d = ap (λ (c : Bool). not c && true) (still-listed b out (entries b) i h (rw (d, e)))
 
   drops : any (λ p. true) (droppedOf b out) ≡ any (droppedAt b out (entries b)) (places (entries b))
-  unfolding unlisted pathOf
+  unfolding unlisted paths pathOf
   drops =
-      any-keep _ (permissionsOf b)
-      ∙ any-same _ _ (permissionAt b) (λ i. i) (entries b) (λ i h. drops-at i h (getD out i false) refl)
+      any-kept _ _ (paths (permissionsOf b)) ∙ any-kept _ _ (permissionsOf b)
+      ∙ any-same _ _ (permissionAt b) (λ i. i) (entries b) (λ i h. rw (path-kind (kindAt b i)) (drops-at i h (isPathAt b i) (getD out i false) refl refl))
 
   drops-facts :
       (s : State) → true ≡ any (droppedAt b out (entries b)) (places (entries b)) →
@@ -152,12 +125,21 @@ module _ (b : List ℕ) (out : List Bool) where
 
   -- which keys: an entry that is out has the path, and no other
   dropped-key : (k : ℕ) → (lists (permissionsOf b) (termOf k) && not (any (keptNames b out (termOf k)) (places (entries b)))) ≡ keyDropped b out k
-  unfolding lists pathOut keptNames pathOf
+  unfolding pathOut keptNames pathOf
   dropped-key k =
       ap (λ (c : Bool). c && not (any (keptNames b out (termOf k)) (places (entries b))))
-      (any-same (λ p. same (pathOf p) (termOf k)) (λ i. same (pathAtEntry b i) (termOf k)) (permissionAt b) (λ i. i) (entries b) (λ i h. refl)
-      ∙ out-or-kept out (λ i. same (pathAtEntry b i) (termOf k)) (entries b))
-      ∙ only (any (λ i. getD out i false && same (pathAtEntry b i) (termOf k)) (places (entries b))) _
+      (lists-any (permissionsOf b) (termOf k)
+      ∙ any-same (isAt (termOf k)) is (permissionAt b) (λ i. i) (entries b) (λ i h. rw (path-kind (kindAt b i)))
+      ∙ out-or-kept out is (entries b) ∙ ap₂ (λ (a c : Bool). a || c) (grouped (λ i. getD out i false)) (grouped (λ i. not (getD out i false))))
+      ∙ only (any (pathOutAt b out k) (places (entries b))) _
+    where
+      is : ℕ → Bool
+      is i = isPathAt b i && same (pathAtEntry b i) (termOf k)
+
+      grouped :
+          (o : ℕ → Bool) →
+          any (λ i. o i && is i) (places (entries b)) ≡ any (λ i. (o i && isPathAt b i) && same (pathAtEntry b i) (termOf k)) (places (entries b))
+      grouped o = any-same _ _ (λ i. i) (λ i. i) (entries b) (λ i h. sym (and-assoc (o i) (isPathAt b i) (same (pathAtEntry b i) (termOf k))))
 
   dropped-term : (k : ℕ) → withoutPaths (droppedOf b out) (termOf k) ≡ cond (keyDropped b out k) none (some (termOf k))
   unfolding withoutPaths
@@ -230,25 +212,42 @@ module _ (key b left : List ℕ) (w : Wf key b) (L : LeftFits b left) (b₁ : Li
   path-is : (i : ℕ) → i < entries b → pathAtEntry b₁ i ≡ pathAtEntry b i
   path-is i h = rw (low (variables-at + i) (omega (arith, w .fit)), low (fields-at + i) (omega (arith, w .fit)))
 
-  as-it-was : (i : ℕ) → i < entries b → getD left i 0 ≡ 0 → permissionAt b₁ i ≡ permissionAt b i
-  unfolding kindLeft
+  as-it-was : (i : ℕ) → i < entries b → kindLeft (getD left i 0) (kindAt b i) ≡ kindAt b i → permissionAt b₁ i ≡ permissionAt b i
   as-it-was i h e =
-      entry-same b b₁ i (S .kinds i (omega (arith, w .fit)) ∙ rw (eq-eqb (getD left i 0) 0 e)) (low (variables-at + i) (omega (arith, w .fit))) (low (fields-at + i) (omega (arith, w .fit)))
+      entry-same b b₁ i (S .kinds i (omega (arith, w .fit)) ∙ e) (low (variables-at + i) (omega (arith, w .fit))) (low (fields-at + i) (omega (arith, w .fit)))
 
-  both-listed :
-      (i : ℕ) → i < entries b → (getD left i 0 ≡ 0 → ⊥) →
-      (lists (leftOf b left) (pathOf (permissionAt b₁ i)) ≡ true) × (lists (leftOf b left) (pathOf (permissionAt b i)) ≡ true)
-  unfolding pathOf
-  both-listed i h d =
+  abbrev BothListed : ℕ → Type 0
+  BothListed i = (lists (leftOf b left) (pathOf (permissionAt b₁ i)) ≡ true) × (lists (leftOf b left) (pathOf (permissionAt b i)) ≡ true)
+
+  both-listed : (i : ℕ) → i < entries b → (getD left i 0 ≡ 0 → ⊥) → kindAt b i < chain-kind → BothListed i
+  unfolding pathOf kindLeft
+  both-listed i h d p =
+      let k : kindAt b₁ i ≡ getD left i 0 = S .kinds i (omega (arith, w .fit)) ∙ rw (ne-eqb (getD left i 0) 0 d) in
+      let stays : leftAt b₁ out i ≡ true =
+      rw (O .at i (omega (arith, w .fit)) ∙ ne-eqb (getD left i 0) 0 d) (lt-ltb (kindAt b₁ i) chain-kind (omega (arith, k, L .most i h))) in
       let e : lists (leftOf b left) (pathAtEntry b₁ i) ≡ true =
-      ap (λ (ks : List Permission). lists ks (pathAtEntry b₁ i)) (sym listed-left)
-      ∙ still-listed b₁ out (entries b₁) i (omega (arith, count)) (O .at i (omega (arith, w .fit)) ∙ ne-eqb (getD left i 0) 0 d) in
+      ap (λ (ks : List Permission). lists ks (pathAtEntry b₁ i)) (sym listed-left) ∙ still-listed b₁ out (entries b₁) i (omega (arith, count)) stays in
       (e, ap (lists (leftOf b left)) (sym (path-is i h)) ∙ e)
+
+  -- an entry that changes is a path that stays listed: a chain is left whole, or not at all
+  one-dropped : (i : ℕ) → i < entries b → (permissionAt b₁ i ≡ permissionAt b i) ⊎ BothListed i
+  unfolding kindLeft
+  one-dropped i h = ⊎-elim gone (λ d. some-left d (decLt (kindAt b i) chain-kind)) (decide-eq (getD left i 0) 0)
+    where
+      gone : getD left i 0 ≡ 0 → (permissionAt b₁ i ≡ permissionAt b i) ⊎ BothListed i
+      gone e = inl (as-it-was i h (rw (eq-eqb (getD left i 0) 0 e)))
+
+      some-left : (getD left i 0 ≡ 0 → ⊥) → Dec (kindAt b i < chain-kind) → (permissionAt b₁ i ≡ permissionAt b i) ⊎ BothListed i
+      some-left d (yes p) = inr (both-listed i h d p)
+      some-left d (no n) =
+          ⊎-elim (λ e. absurd (d e))
+          (λ e. inl (as-it-was i h (rw (ne-eqb (getD left i 0) 0 d) (omega (arith, e, w .kinds i h .1, n)))))
+          (L .whole i h (omega (arith, n)))
 
   same-dropped : droppedOf b₁ out ≡ unlisted (leftOf b left) (permissionsOf b)
   same-dropped =
       ap₂ (λ (ks : List Permission) (n : ℕ). unlisted ks (permissionsIn b₁ n)) listed-left count
-      ∙ unlisted-same (leftOf b left) (permissionAt b₁) (permissionAt b) (entries b) (λ i h. ⊎-elim (λ e. inl (as-it-was i h e)) (λ d. inr (both-listed i h d)) (decide-eq (getD left i 0) 0))
+      ∙ unlisted-same (leftOf b left) (permissionAt b₁) (permissionAt b) (entries b) one-dropped
 
   module _ (key₂ b₂ : List ℕ) (F : ForgotOut key b₁ out key₂ b₂) (b₃ : List ℕ) (P : Packed b₂ out b₃) where
     pub remainder-law : Becomes (Rules.remainder (stateOf key b) (leftOf b left)) key₂ b₃

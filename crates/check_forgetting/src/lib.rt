@@ -4,11 +4,11 @@ use check_state::Resolved;
 use rules::Machine;
 ghost use mathlib.Core.Path.{_≡_};
 ghost use mathlib.Core.Bool.{true};
-ghost use Prim.Native.Nat.{_<_, _+_, ℕ};
+ghost use Prim.Native.Nat.{_+_, ℕ};
 ghost use lib.ListN.{length, getD};
 ghost use Rattle.check_equality.specs.Layout.{bytes, variables-at, fields-at};
 ghost use Rattle.check_equality.specs.Links.{Header};
-ghost use Rattle.check_state.specs.States.{Wf, entries, stateOf};
+ghost use Rattle.check_state.specs.States.{Wf, isPathAt, stateOf};
 ghost use Rattle.check_successors.specs.Successors.{termOr};
 ghost use Rattle.check_scans.specs.Scans.{Scanned, markedKey};
 ghost use Rattle.check_state.specs.Questions.{variableOr};
@@ -94,9 +94,9 @@ pub fn remainder(
     check_entries::pack(b, &out);
 }
 
-// The path of entry i, whose key is k, is dropped, though it stays listed.
+// The listed path of entry i, whose key is k, is dropped, though it stays listed.
 pub fn without_path(key: &mut [u64; State::SLOTS], b: &mut [u8; State::BYTES], i: usize, k: u64)
-    requires { ⌜ Wf (now key) (now b) × (i < entries (now b)) × (termOf k ≡ Syntax.path (getD (now b) (variables-at + i) 0) (getD (now b) (fields-at + i) 0)) ⌝ }
+    requires { ⌜ Wf (now key) (now b) × (isPathAt (now b) i ≡ true) × (termOf k ≡ Syntax.path (getD (now b) (variables-at + i) 0) (getD (now b) (fields-at + i) 0)) ⌝ }
     ensures { λ _. ⌜ Becomes (withoutPath (now (key .entry)) (now (b .entry)) i) (now (key .exit)) (now (b .exit)) ⌝ }
 {
     let p = b[State::ENTRIES] as usize;

@@ -2,6 +2,7 @@
 use mathlib.Core.Path.{_≡_, refl, sym, ap, ap₂, _∙_}
 use mathlib.Core.Bool.{Bool, true, false}
 use mathlib.Core.List.{List, [], _∷_, map}
+use mathlib.Core.Logic.{inr}
 use Prim.Native.Nat.{ℕ, suc, _+_, _-_, _≤_, _<_}
 use native.Mathlib.Omega.{arith}
 use borrow.Author.Tests.{lt-ltb, le-ltb, ne-eqb}
@@ -10,13 +11,13 @@ use denote.Enum.Declared.{tagOf}
 use Rattle.rules.specs.Base.{Try, ok, no, _>>=_, _>>_, check}
 use Rattle.rules.specs.Limits.{most-permissions}
 use Rattle.rules.specs.Answers.{Refusal, notShown}
-use Rattle.rules.specs.Syntax.{Formula, Atom, eq, ne, own, cmp}
+use Rattle.rules.specs.Syntax.{Formula, Atom, eq, ne, var, own, cmp}
 use Rattle.rules.specs.State as Rules
 use Rattle.rules.specs.State.{Permission, Equality, equalIn, showFrom}
 use Rattle.rules.specs.Rules.{actual, substTerm, substAtom}
 use Rattle.tables.specs.Numbers.{eq-atom}
 use Rattle.tables.specs.Decode.{run, isPermission, relOf, atomKindAt, leftAt, rightAt, atomAt, atomsFrom}
-use Rattle.check_state.specs.States.{Wf, stateOf, entries, kindAt}
+use Rattle.check_state.specs.States.{Wf, stateOf, entries, kindAt, permissionsOf}
 use Rattle.check_state.specs.Questions.{Bytes}
 use Rattle.check_entries.specs.Entries.{LeftFits, leftOf}
 use Rattle.check_entries.proofs.Halves.{all-left}
@@ -94,7 +95,7 @@ show-on :
     (_~_ : Equality) (s : Rules.State) (a : Atom ℕ) (φ : Formula ℕ) (kept : List Permission) →
     showFrom _~_ s (a ∷ φ) kept ≡ (showFrom _~_ s (a ∷ []) kept >>= λ k. showFrom _~_ s φ k)
 unfolding showFrom _>>=_
-show-on _~_ s (own k y f) φ kept = bind-bind (Rules.takeOwn _~_ k y f kept) ok (showFrom _~_ s φ) (showFrom _~_ s φ) (λ k. refl)
+show-on _~_ s (own k y f) φ kept = bind-bind (Rules.takeOwn _~_ k (var y) f kept) ok (showFrom _~_ s φ) (showFrom _~_ s φ) (λ k. refl)
 show-on _~_ s (cmp n a b) φ kept =
     bind-bind (Rules.resolve _~_ (s .permissions) a) _ _ _
     (λ t. bind-bind (Rules.resolve _~_ (s .permissions) b) _ _ _ (λ u. check-on (Rules.holdsIn _~_ s n t u) kept (showFrom _~_ s φ)))
@@ -108,7 +109,16 @@ add-on (cmp n a b) φ s =
 
 -- SHOWING
 pub start-fits : (key b left : List ℕ) → Wf key b → Bytes (kindAt b) most-permissions left → LeftFits b left
-start-fits key b left w B = record { size = B .size; most = λ i h. let e = B .at i (omega (arith, w .fit)) in omega arith }
+start-fits key b left w B =
+    record {
+      size = B .size;
+      most = λ i h. let e = B .at i (omega (arith, w .fit)) in omega arith;
+      whole = λ i h g. inr (omega (arith, B .at i (omega (arith, w .fit)), w .kinds i h .1));
+    }
+
+-- all is left at first
+pub start-left : (key b left : List ℕ) → Wf key b → Bytes (kindAt b) most-permissions left → leftOf b left ≡ permissionsOf b
+start-left key b left w B = all-left b left (entries b) (λ i h. B .at i (omega (arith, w .fit))) (w .kinds)
 
 pub show-start :
     (w : List ℕ) (y z x a n : ℕ) (key b left : List ℕ) → Wf key b → Bytes (kindAt b) most-permissions left →
@@ -116,7 +126,7 @@ pub show-start :
 unfolding Rules.show
 show-start w y z x a n key b left W B =
     ap₂ (λ (φ : Formula ℕ) (kept : List Permission). showFrom (equalIn (stateOf key b)) (stateOf key b) φ kept) (formula-all w y z x a n)
-    (all-left b left (entries b) (λ i h. B .at i (omega (arith, W .fit))) (W .kinds))
+    (start-left key b left W B)
 
 module _ (key b : List ℕ) (φ rest : Formula ℕ) (left : List ℕ) (S : Showing key b φ rest left) where
   module _ (a : Atom ℕ) (more : Formula ℕ) (e : rest ≡ a ∷ more) (k : Answer) (left′ : List ℕ) (A : ShowsAtom key b left a k left′) where

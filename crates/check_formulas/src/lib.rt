@@ -90,10 +90,10 @@ pub fn right(w: &[u8], a: usize, y: u8, z: u8, x: u8) -> Term
 fn permission(k: usize, x: u8, f: u8) -> Atom
     ensures { λ r. ⌜ atomOf r ≡ own (permitOf k) x f ⌝ }
 {
-    if k == AtomKind::ACC {
-        Atom::Acc(x, f)
-    } else {
-        Atom::Read(x, f)
+    match k {
+        AtomKind::ACC => Atom::Acc(x, f),
+        AtomKind::CHAIN => Atom::Chain(x, f),
+        _ => Atom::Read(x, f),
     }
 }
 

@@ -4,12 +4,12 @@ mod by_numbers;
 pub use by_numbers::number_like;
 use check_equality::State;
 ghost use mathlib.Core.Path.{_≡_};
-ghost use mathlib.Core.Bool.{true};
+ghost use mathlib.Core.Bool.{true, _&&_};
 ghost use Prim.Native.Nat.{_≤_, _<_};
 ghost use Rattle.rules.specs.Base.{any};
 ghost use Rattle.rules.specs.Limits.{most-permissions, most-facts};
 ghost use Rattle.rules.specs.Syntax as Syntax;
-ghost use Rattle.rules.specs.Syntax.{var};
+ghost use Rattle.rules.specs.Syntax.{var, isPath};
 ghost use Rattle.rules.specs.State as Rules;
 ghost use Rattle.rules.specs.State.{nullAndObject, twoEntries, equalIn, holdsIn};
 ghost use Rattle.check_equality.specs.Keys.{termOf, first-number};
@@ -55,7 +55,26 @@ fn listed_unequal(b: &[u8; State::BYTES], n: usize, x: u8, y: u8) -> bool
     false
 }
 
-// Is the variable of some entry ~ the term of k?
+// Is an entry of x with the kind c a listed path, and x ~ the term of k?
+fn is_object<'a>(
+    key: &'a [u64; State::SLOTS],
+    b: &'a [u8; State::BYTES],
+    m: usize,
+    c: u8,
+    x: u8,
+    k: u64,
+    a: u8,
+) -> bool
+    requires { ⌜ Slots (now key) (now b) m × Labelled (now key) (now b) m k a ⌝ }
+    ensures { λ r. ⌜ Told (now (key .entry)) (now (b .entry)) m (λ same. r ≡ (isPath (permitOf c) && same (var x) (termOf k))) ⌝ }
+{
+    if check_state::variable_is(key, b, m, x, k, a) {
+        return c < State::CHAIN;
+    }
+    false
+}
+
+// Is the variable of some listed path ~ the term of k?
 fn some_object<'a>(
     key: &'a [u64; State::SLOTS],
     b: &'a [u8; State::BYTES],
@@ -65,11 +84,19 @@ fn some_object<'a>(
     a: u8,
 ) -> bool
     requires { ⌜ Slots (now key) (now b) m × Labelled (now key) (now b) m k a × (n ≤ most-permissions) ⌝ }
-    ensures { λ r. ⌜ Told (now (key .entry)) (now (b .entry)) m (λ same. r ≡ any (λ p. same (var (p .variable)) (termOf k)) (permissionsIn (now (b .entry)) n)) ⌝ }
+    ensures { λ r. ⌜ Told (now (key .entry)) (now (b .entry)) m (λ same. r ≡ any (λ p. isPath (p .permit) && same (var (p .variable)) (termOf k)) (permissionsIn (now (b .entry)) n)) ⌝ }
 {
     let mut i = 0;
     while i < n {
-        if check_state::variable_is(key, b, m, b[State::VARIABLES + i], k, a) {
+        if is_object(
+            key,
+            b,
+            m,
+            b[State::KINDS + i],
+            b[State::VARIABLES + i],
+            k,
+            a,
+        ) {
             return true;
         }
         i += 1;
@@ -77,7 +104,7 @@ fn some_object<'a>(
     false
 }
 
-// (c) Is the term of t ~ null, and that of u ~ the variable of some entry?
+// (c) Is the term of t ~ null, and that of u ~ the variable of some listed path?
 fn null_and_object<'a>(
     key: &'a [u64; State::SLOTS],
     b: &'a [u8; State::BYTES],
@@ -97,11 +124,11 @@ fn null_and_object<'a>(
     false
 }
 
-// Do entries of two kinds own more halves than one location has? One of them is an `acc`.
+// Do entries of two kinds own more halves than one location has? Both are listed paths, one of them an `acc`.
 fn exceed(j: u8, i: u8) -> bool
     ensures { λ r. ⌜ r ≡ Rules.exceed (permitOf j) (permitOf i) ⌝ }
 {
-    (j == State::ACC) | (i == State::ACC)
+    ((j == State::ACC) & (i < State::CHAIN)) | ((i == State::ACC) & (j < State::CHAIN))
 }
 
 // The entries j and i, where p and q say whether the variable of i is ~ the terms of t and u.

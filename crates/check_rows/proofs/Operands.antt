@@ -75,15 +75,15 @@ neither true b e = absurd (let z : _≡_ {A = ℕ} 0 1 = cc in omega arith)
 -- each kind that goes on, `add` and `sub` apart, has its rule
 pub no-kind :
     (k : ℕ) → IsStatementNumber k → GoesOn k → (k ≡ 8 → ⊥) → (k ≡ 9 → ⊥) → (k ≡ 10 → ⊥) → (k ≡ 11 → ⊥) → (k ≡ 13 → ⊥) → (k ≡ 14 → ⊥) →
-    (k < 19) ⊎ (21 ≤ k) → ⊥
+    (k ≡ 23 → ⊥) → (k ≡ 24 → ⊥) → (k < 19) ⊎ (21 ≤ k) → ⊥
 unfolding isClosingNumber statementNumber
-no-kind k (low, high) (o, i, p, r) a b c d f g l =
+no-kind k (low, high) (o, i, p, r) a b c d f g s t l =
     let (x, others) = neither (eqb k 16) (eqb k 17 || (eqb k 18 || eqb k 22)) o in
     let (y, more) = neither (eqb k 17) (eqb k 18 || eqb k 22) others in
     let (z, v) = neither (eqb k 18) (eqb k 22) more in
     let m = above k 15 (above k 14 (above k 13 (above k 12 (above k 11 (above k 10 (above k 9 (above k 8 low a) b) c) d) r) f) g) i in
-    last k (above k 18 (above k 17 (above k 16 m (eqb-false k 16 x)) (eqb-false k 17 y)) (eqb-false k 18 z)) high p (eqb-false k 22 v) l
+    last k (above k 18 (above k 17 (above k 16 m (eqb-false k 16 x)) (eqb-false k 17 y)) (eqb-false k 18 z)) high p (eqb-false k 22 v) s t l
   where
-    last : (k : ℕ) → 19 ≤ k → k ≤ 22 → (k ≡ 21 → ⊥) → (k ≡ 22 → ⊥) → (k < 19) ⊎ (21 ≤ k) → ⊥
-    last k m h p v (inl l) = omega arith
-    last k m h p v (inr l) = omega (arith, above k 22 (above k 21 l p) v)
+    last : (k : ℕ) → 19 ≤ k → k ≤ 24 → (k ≡ 21 → ⊥) → (k ≡ 22 → ⊥) → (k ≡ 23 → ⊥) → (k ≡ 24 → ⊥) → (k < 19) ⊎ (21 ≤ k) → ⊥
+    last k m h p v s t (inl l) = omega arith
+    last k m h p v s t (inr l) = omega (arith, above k 24 (above k 23 (above k 22 (above k 21 l p) v) s) t)

@@ -6,7 +6,7 @@ use Prim.Native.Nat.{ℕ, _-_}
 use Rattle.rules.specs.Grammar.{Statement, statementNumber}
 use Rattle.rules.specs.Answers.{Refusal}
 use Rattle.rules.specs.Base.{Try}
-use Rattle.rules.specs.Syntax.{Rel, Simple, simple, set, assign, compute, new, call}
+use Rattle.rules.specs.Syntax.{Rel, Simple, simple, set, assign, compute, new, call, openChain, shutChain}
 use Rattle.rules.specs.State as Rules
 use Rattle.rules.specs.Rules.{End, opposite, rule, ifRule}
 use Rattle.tables.specs.Decode.{kindAt, xAt, yAt, zAt, memberAt, firstAtomAt, atomCountAt, stmtAt, programIn, atomPlace, byteAt, relOf, operationOf, leftAt, rightAt}
@@ -34,6 +34,13 @@ callAt w i = call (xAt w i) (yAt w i) (memberAt w i) (zAt w i)
 
 abbrev pub computeAt : List ℕ → ℕ → Simple
 computeAt w i = compute (operationOf (kindAt w i)) (xAt w i) (yAt w i) (zAt w i)
+
+-- of `open y x f` x has y, and y has x
+abbrev pub openAt : List ℕ → ℕ → Simple
+openAt w i = openChain (xAt w i) (yAt w i) (memberAt w i)
+
+abbrev pub shutAt : List ℕ → ℕ → Simple
+shutAt w i = shutChain (xAt w i) (memberAt w i)
 
 -- its rule, from the state that key and b hold
 abbrev pub RuleGives : List ℕ → Simple → List ℕ → List ℕ → Answer → List ℕ → List ℕ → Type 0

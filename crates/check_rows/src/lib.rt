@@ -12,7 +12,10 @@ ghost use Rattle.tables.specs.Tables.{Tables};
 ghost use Rattle.check_state.specs.States.{Wf, stateOf};
 ghost use Rattle.check_entailment.specs.Answers.{Adds};
 ghost use Rattle.check_statements.specs.Statements.{Parts, endOf, JoinGives};
-ghost use Rattle.check_rows.specs.Rows.{RowIs, setAt, letAt, newAt, callAt, computeAt, RuleGives, branches, bodyStarts, loopLeaves, Stepped};
+ghost use Rattle.check_rows.specs.Rows.{RowIs, setAt, letAt, newAt, callAt, computeAt, openAt, shutAt, RuleGives, branches, bodyStarts, loopLeaves, Stepped};
+
+// The first number past those of the kinds.
+const UNKNOWN: u8 = Kind::LAST + 1;
 
 // `set x f y`
 fn set_at(w: &[u8], i: usize, key: &mut [u64; State::SLOTS], b: &mut [u8; State::BYTES]) -> Answer
@@ -73,6 +76,27 @@ fn compute_at(
     let x = tables::x_at(w, i) as u8;
     check_forgetting::remove(key, b, x);
     Answer::Done
+}
+
+// `open y x f`
+fn open_at(w: &[u8], i: usize, key: &mut [u64; State::SLOTS], b: &mut [u8; State::BYTES]) -> Answer
+    requires { ⌜ Tables (now w) × (i < rowCount (now w)) × Wf (now key) (now b) ⌝ }
+    ensures { λ r. ⌜ RuleGives (now (w .entry)) (openAt (now (w .entry)) i) (now (key .entry)) (now (b .entry)) r (now (key .exit)) (now (b .exit)) ⌝ }
+{
+    let y = tables::x_at(w, i) as u8;
+    let x = tables::y_at(w, i) as u8;
+    let f = tables::member_at(w, i) as u8;
+    check_statements::open_rule(key, b, y, x, f)
+}
+
+// `shut x f`
+fn shut_at(w: &[u8], i: usize, key: &mut [u64; State::SLOTS], b: &mut [u8; State::BYTES]) -> Answer
+    requires { ⌜ Tables (now w) × (i < rowCount (now w)) × Wf (now key) (now b) ⌝ }
+    ensures { λ r. ⌜ RuleGives (now (w .entry)) (shutAt (now (w .entry)) i) (now (key .entry)) (now (b .entry)) r (now (key .exit)) (now (b .exit)) ⌝ }
+{
+    let x = tables::x_at(w, i) as u8;
+    let f = tables::member_at(w, i) as u8;
+    check_statements::shut_rule(key, b, x, f)
 }
 
 // `assert` formula
@@ -201,8 +225,13 @@ pub fn statement(
         Kind::ASSERT => assert_at(w, i, key, b),
         Kind::RELEASE => release_at(w, i, key, b),
         Kind::ADD | Kind::SUB => compute_at(w, i, key, b),
+        Kind::OPEN => open_at(w, i, key, b),
+        Kind::SHUT => shut_at(w, i, key, b),
         // The other statements do not go on, and no row is of an unknown kind: any answer meets the contract.
-        0..=Kind::VAR | Kind::RETURN | Kind::IF..=Kind::END | Kind::LOOP..=u8::MAX =>
-            Answer::Malformed,
+        0..=Kind::VAR
+        | Kind::RETURN
+        | Kind::IF..=Kind::END
+        | Kind::LOOP..=Kind::AGAIN
+        | UNKNOWN..=u8::MAX => Answer::Malformed,
     }
 }

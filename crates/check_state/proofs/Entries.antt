@@ -6,22 +6,23 @@ use mathlib.Core.Option.{none, some}
 use mathlib.Core.Logic.{_⊎_, inl, inr, ⊎-elim}
 use Prim.Native.Nat.{ℕ, zero, suc, _+_, _≤_, _<_}
 use native.Mathlib.Omega.{arith}
-use lib.Dec.{ltb}
+use lib.Dec.{eqb, ltb, leb}
 use lib.ListN.{getD, set, replicate, getD-replicate, List·getD-eq-default, length-replicate, length-set}
 use lib.Seq.{getD-set-same, getD-set-other}
-use borrow.Author.Tests.{ne-eqb, le-leb, ltb-true, ltb-false}
+use borrow.Author.Tests.{ne-eqb, eqb-true, lt-ltb, le-leb, lt-leb, ltb-true, ltb-false}
 use Rattle.rules.specs.Base.{ok, no, _>>=_, orElse, first}
 use Rattle.rules.specs.Limits.{most-permissions}
 use Rattle.rules.specs.Answers.{unresolved}
-use Rattle.rules.specs.Syntax.{var, path}
+use Rattle.rules.specs.Syntax.{var, path, acc, read, chain, isPath}
 use Rattle.rules.specs.State as Rules
-use Rattle.rules.specs.State.{Equality, equalIn, equalBy, representative, names, pathOf}
+use Rattle.rules.specs.State.{Equality, equalIn, equalBy, representative, entryOf, names, pathOf}
 use Rattle.rules.proofs.Lists.{decide-eq}
+use Rattle.check_equality.specs.Layout.{read-kind, acc-kind, chain-kind}
 use Rattle.check_equality.specs.Keys.{termOf}
 use Rattle.check_equality.specs.Listing.{listed}
 use Rattle.check_equality.proofs.Listing.{first-append, first-here, first-found}
-use Rattle.check_state.specs.States.{factsOf, permissionAt, permissionsOf, stateOf, entries}
-use Rattle.check_state.specs.Questions.{FirstPlace, Bytes, entryTest, passes, pathAt, standsFor, variableOr}
+use Rattle.check_state.specs.States.{factsOf, permissionAt, permissionsOf, permitOf, kindAt, IsKind, KindsIn, stateOf, entries}
+use Rattle.check_state.specs.Questions.{FirstPlace, Bytes, entryTest, passes, inRange, pathAt, standsFor, variableOr}
 
 pub no-flags : (n i : ℕ) → getD (replicate n false) i false ≡ false
 no-flags n i = ⊎-elim (λ h. h) (λ h. h) (go (ltb i n) refl)
@@ -44,13 +45,32 @@ first-none p f zero h = refl
 first-none p f (suc n) h =
     first-append p (listed f n) (f n ∷ []) (first-none p f n (λ i k. h i (omega arith))) ∙ rw (h n (omega arith))
 
-module _ (b halves : List ℕ) (_~_ : Equality) (y g i : ℕ) (F : FirstPlace (entryTest b halves 0 y g _~_) (entries b) i) where
-  in-order : (j : ℕ) → names _~_ y g (permissionAt b j) ≡ entryTest b halves 0 y g _~_ j
-  unfolding passes names
-  in-order j = rw (le-leb 0 (getD halves j 0) (omega arith))
+-- the kinds of listed paths
+pub path-kind : (k : ℕ) → isPath (permitOf k) ≡ ltb k chain-kind
+unfolding isPath permitOf
+path-kind k = go (eqb k acc-kind) (ltb k chain-kind) refl refl
+  where
+    go : (a c : Bool) → eqb k acc-kind ≡ a → ltb k chain-kind ≡ c → isPath (cond a acc (cond c read chain)) ≡ c
+    go true c e d = sym (lt-ltb k chain-kind (omega (arith, eqb-true k acc-kind e))) ∙ d
+    go false true e d = refl
+    go false false e d = refl
+
+path-range : (k : ℕ) → IsKind k → isPath (permitOf k) ≡ inRange read-kind acc-kind k
+unfolding inRange
+path-range k w = path-kind k ∙ rw (le-leb read-kind k (w .0)) (go (ltb k chain-kind) refl)
+  where
+    go : (c : Bool) → ltb k chain-kind ≡ c → c ≡ leb k acc-kind
+    go true e = sym (le-leb k acc-kind (omega (arith, ltb-true k chain-kind e)))
+    go false e = sym (lt-leb k acc-kind (omega (arith, ltb-false k chain-kind e)))
+
+module _ (b kinds : List ℕ) (_~_ : Equality) (y g i : ℕ) (K : KindsIn b (entries b)) (few : entries b ≤ most-permissions) (B : Bytes (kindAt b) most-permissions kinds)
+    (F : FirstPlace (entryTest b kinds read-kind acc-kind (var y) g _~_) (entries b) i) where
+  in-order : (j : ℕ) → j < entries b → names _~_ y g (permissionAt b j) ≡ entryTest b kinds read-kind acc-kind (var y) g _~_ j
+  unfolding passes names entryOf
+  in-order j h = rw (path-range (kindAt b j) (K j h), B .at j (omega arith))
 
   none-before : first (names _~_ y g) (listed (permissionAt b) i) ≡ none
-  none-before = first-none _ (permissionAt b) i (λ j h. in-order j ∙ F .before j h)
+  none-before = first-none _ (permissionAt b) i (λ j h. in-order j (omega (arith, F .within)) ∙ F .before j h)
 
   pub resolve-path : pathAt b i ≡ Rules.resolve _~_ (permissionsOf b) (path y g)
   unfolding Rules.resolve pathAt orElse _>>=_
@@ -60,7 +80,7 @@ module _ (b halves : List ℕ) (_~_ : Equality) (y g i : ℕ) (F : FirstPlace (e
       go true e =
           let h : i < entries b = ltb-true i (entries b) e in
           rw (first-found (names _~_ y g) (permissionAt b) (entries b) i h
-          (first-here (names _~_ y g) (permissionAt b) i none-before (in-order i ∙ F .found h)))
+          (first-here (names _~_ y g) (permissionAt b) i none-before (in-order i h ∙ F .found h)))
       go false e =
           let d : i ≡ entries b = omega (arith, ltb-false i (entries b) e, F .within) in
           rw (rw d at none-before)

@@ -39,13 +39,17 @@ pub record Bytes (f : ℕ → ℕ) (n : ℕ) (r : List ℕ) : Type 0 where
   pub size : length r ≡ most-permissions
   pub at : (i : ℕ) → i < n → getD r i 0 ≡ f i
 
--- the entry `x.f` serves, and x ~ y and f is g
-unfoldable pub passes : Equality → ℕ → ℕ → Bool → ℕ → ℕ → Bool
-passes _~_ y g serves x f = serves && (eqb f g && _~_ (var x) (var y))
+-- an entry by f of x serves, and x ~ t and f is g
+unfoldable pub passes : Equality → Rules.Term → ℕ → Bool → ℕ → ℕ → Bool
+passes _~_ t g serves x f = serves && (eqb f g && _~_ (var x) t)
 
--- it has as many halves as are wanted
-abbrev pub entryTest : List ℕ → List ℕ → ℕ → ℕ → ℕ → Equality → ℕ → Bool
-entryTest b halves want y g _~_ i = passes _~_ y g (leb want (getD halves i 0)) (variableAt b i) (fieldAt b i)
+-- its kind is one of those from `least` to `most`
+unfoldable pub inRange : ℕ → ℕ → ℕ → Bool
+inRange least most k = leb least k && leb k most
+
+-- the entry i, with the kind that `kinds` has for it
+abbrev pub entryTest : List ℕ → List ℕ → ℕ → ℕ → Rules.Term → ℕ → Equality → ℕ → Bool
+entryTest b kinds least most t g _~_ i = passes _~_ t g (inRange least most (getD kinds i 0)) (variableAt b i) (fieldAt b i)
 
 abbrev pub places : ℕ → List ℕ
 places n = listed (λ i. i) n

@@ -1,16 +1,16 @@
 -- The checker's state in the code, and the state of the definitions that it means. It stands in two arrays, as
 -- `Layout` of check_equality says.
 use mathlib.Core.Path.{_≡_}
-use mathlib.Core.Bool.{Bool, cond}
+use mathlib.Core.Bool.{Bool, false, not, cond, _&&_}
 use mathlib.Core.List.{List}
 use Prim.Native.Nat.{ℕ, _+_, _*_, _≤_, _<_}
-use lib.Dec.{eqb}
+use lib.Dec.{eqb, ltb}
 use lib.ListN.{length, getD}
 use Rattle.rules.specs.Limits.{most-permissions, most-facts}
-use Rattle.rules.specs.Syntax.{Permit, acc, read, path}
+use Rattle.rules.specs.Syntax.{Permit, acc, read, chain, path}
 use Rattle.rules.specs.State as Rules
 use Rattle.rules.specs.State.{Permission, Fact, entry}
-use Rattle.check_equality.specs.Layout.{left-sides, right-sides, relations-at, variables-at, fields-at, fact-count, entry-count, kinds-at, read-kind, acc-kind, bytes}
+use Rattle.check_equality.specs.Layout.{left-sides, right-sides, relations-at, variables-at, fields-at, fact-count, entry-count, kinds-at, read-kind, acc-kind, chain-kind, bytes}
 use Rattle.check_equality.specs.Listing.{listed}
 use Rattle.check_equality.specs.Links.{Header, Decides, factOf}
 
@@ -32,17 +32,25 @@ variableAt b i = getD b (variables-at + i) 0
 abbrev pub fieldAt : List ℕ → ℕ → ℕ
 fieldAt b i = getD b (fields-at + i) 0
 
--- its kind, the halves that it owns
+-- its kind
 abbrev pub kindAt : List ℕ → ℕ → ℕ
 kindAt b i = getD b (kinds-at + i) 0
 
--- its path
+-- is it a listed path? A chain is none
+abbrev pub isPathAt : List ℕ → ℕ → Bool
+isPathAt b i = ltb (kindAt b i) chain-kind
+
+-- is it one without a flag?
+abbrev pub leftAt : List ℕ → List Bool → ℕ → Bool
+leftAt b flags i = not (getD flags i false) && isPathAt b i
+
+-- that path
 abbrev pub pathAtEntry : List ℕ → ℕ → Rules.Term
 pathAtEntry b i = path (variableAt b i) (fieldAt b i)
 
--- what so many halves are
+-- what the kinds are
 unfoldable pub permitOf : ℕ → Permit
-permitOf k = cond (eqb k acc-kind) acc read
+permitOf k = cond (eqb k acc-kind) acc (cond (ltb k chain-kind) read chain)
 
 abbrev pub permissionAt : List ℕ → ℕ → Permission
 permissionAt b i = entry (permitOf (kindAt b i)) (variableAt b i) (fieldAt b i)
@@ -73,9 +81,9 @@ pub record Linked (key b : List ℕ) (n : ℕ) : Type 0 where
   pub fit : n ≤ most-facts
   pub decides : Decides (factsIn key b n) key b (left-sides + 2 * n)
 
--- every entry is a `read` or an `acc`
+-- the kind of a `read`, an `acc` or a chain
 abbrev pub IsKind : ℕ → Type 0
-IsKind k = (read-kind ≤ k) × (k ≤ acc-kind)
+IsKind k = (read-kind ≤ k) × (k ≤ chain-kind)
 
 -- the kinds of the first n entries
 abbrev pub KindsIn : List ℕ → ℕ → Type 0

@@ -1,9 +1,9 @@
-// The checker's state in two arrays, and what it answers: ~, resolving, the first entry of a path, the first other variable ~ x.
+// The checker's state in two arrays, and what it answers: ~, resolving, the first entry of a term, the first other variable ~ x.
 use check_equality::State;
 use check_equality::Term;
 use rules::Machine;
 ghost use mathlib.Core.Path.{_≡_};
-ghost use Prim.Native.Nat.{ℕ, _≤_};
+ghost use Prim.Native.Nat.{_≤_};
 ghost use Rattle.rules.specs.Limits.{most-permissions};
 ghost use Rattle.rules.specs.Syntax.{var};
 ghost use Rattle.rules.specs.State as Rules;
@@ -12,7 +12,7 @@ ghost use Rattle.check_equality.specs.Layout.{null-slot};
 ghost use Rattle.check_equality.specs.Keys.{termOf, meaning};
 ghost use Rattle.check_equality.specs.Links.{Labelled};
 ghost use Rattle.check_state.specs.States.{Wf, stateOf, permissionsOf, entries, kindAt};
-ghost use Rattle.check_state.specs.Questions.{Slots, Told, FirstPlace, Bytes, entryTest, passes, resolvedAs, pathAt, standsFor, variableOr};
+ghost use Rattle.check_state.specs.Questions.{Slots, Told, FirstPlace, Bytes, entryTest, passes, inRange, resolvedAs, pathAt, standsFor, variableOr};
 
 // What the checker knows stands in two arrays, `key` and `b` (`State` in check_equality). Two slots have one label where their terms are ~.
 
@@ -37,7 +37,7 @@ pub fn variable_is<'a>(
     check_equality::alike(l, c, k, a)
 }
 
-// Does the entry x.f serve, and is it a y.g with x ~ y? k and a are y's key and label.
+// Does an entry by f of x serve, and is f g and x ~ the term of the key k, whose label is a?
 fn names<'a>(
     key: &'a [u64; State::SLOTS],
     b: &'a [u8; State::BYTES],
@@ -50,7 +50,7 @@ fn names<'a>(
     g: u8,
 ) -> bool
     requires { ⌜ Slots (now key) (now b) m × Labelled (now key) (now b) m k a ⌝ }
-    ensures { λ r. ⌜ Told (now (key .entry)) (now (b .entry)) m (λ same. (y : ℕ) → termOf k ≡ var y → r ≡ passes same y g serves x f) ⌝ }
+    ensures { λ r. ⌜ Told (now (key .entry)) (now (b .entry)) m (λ same. r ≡ passes same (termOf k) g serves x f) ⌝ }
 {
     if f != g {
         return false;
@@ -61,21 +61,27 @@ fn names<'a>(
     false
 }
 
-// The place of the first entry that has as many halves as are wanted and is a y.f up to ~, or n.
+fn in_range(least: u8, most: u8, k: u8) -> bool
+    ensures { λ r. ⌜ r ≡ inRange least most k ⌝ }
+{
+    (least <= k) & (k <= most)
+}
+
+// The place of the first entry by f, of a kind from `least` to `most`, of a variable ~ the term of k; or n.
 fn find<'a>(
     key: &'a [u64; State::SLOTS],
     b: &'a [u8; State::BYTES],
     m: usize,
-    halves: &'a [u8; Machine::PERMISSIONS],
+    kinds: &'a [u8; Machine::PERMISSIONS],
     n: usize,
-    want: u8,
-    y: u8,
+    least: u8,
+    most: u8,
+    k: u64,
     f: u8,
 ) -> usize
     requires { ⌜ Slots (now key) (now b) m × (n ≤ most-permissions) ⌝ }
-    ensures { λ r. ⌜ Told (now (key .entry)) (now (b .entry)) m (λ same. FirstPlace (entryTest (now (b .entry)) (now (halves .entry)) want y f same) n r) ⌝ }
+    ensures { λ r. ⌜ Told (now (key .entry)) (now (b .entry)) m (λ same. FirstPlace (entryTest (now (b .entry)) (now (kinds .entry)) least most (termOf k) f same) n r) ⌝ }
 {
-    let k = check_equality::variable_key(y);
     let a = check_equality::label_of(key, b, m, k);
     let mut i = 0;
     while i < n {
@@ -83,7 +89,7 @@ fn find<'a>(
             key,
             b,
             m,
-            want <= halves[i],
+            in_range(least, most, kinds[i]),
             b[State::VARIABLES + i],
             b[State::FIELDS + i],
             k,
@@ -114,20 +120,23 @@ pub enum Resolved {
     Nothing,
 }
 
-// The place of the first entry that has as many halves as are wanted and is a y.f up to ~, or the count of entries.
+// The place of the first entry by f of a variable ~ the term of k, or the count of entries: its kind, that `kinds` has, is one of those
+// from `least` to `most`.
 pub fn entry<'a>(
     key: &'a [u64; State::SLOTS],
     b: &'a [u8; State::BYTES],
-    halves: &'a [u8; Machine::PERMISSIONS],
-    want: u8,
-    y: u8,
+    kinds: &'a [u8; Machine::PERMISSIONS],
+    least: u8,
+    most: u8,
+    k: u64,
     f: u8,
 ) -> usize
     requires { ⌜ Wf (now key) (now b) ⌝ }
-    ensures { λ r. ⌜ FirstPlace (entryTest (now (b .entry)) (now (halves .entry)) want y f (equalIn (stateOf (now (key .entry)) (now (b .entry))))) (entries (now (b .entry))) r ⌝ }
+    ensures { λ r. ⌜ FirstPlace (entryTest (now (b .entry)) (now (kinds .entry)) least most (termOf k) f (equalIn (stateOf (now (key .entry)) (now (b .entry))))) (entries (now (b .entry))) r ⌝ }
 {
     let m = State::LEFT + 2 * (b[State::FACTS] as usize);
-    find(key, b, m, halves, b[State::ENTRIES] as usize, want, y, f)
+    let n = b[State::ENTRIES] as usize;
+    find(key, b, m, kinds, n, least, most, k, f)
 }
 
 fn path_at(b: &[u8; State::BYTES], i: usize) -> Resolved
@@ -143,20 +152,20 @@ fn path_at(b: &[u8; State::BYTES], i: usize) -> Resolved
     Resolved::Nothing
 }
 
-// The halves that each entry owns.
+// The kinds of the entries.
 pub fn kinds(b: &[u8; State::BYTES]) -> [u8; Machine::PERMISSIONS]
     ensures { λ r. ⌜ Bytes (kindAt (now (b .entry))) most-permissions r ⌝ }
 {
-    let mut halves = [0; Machine::PERMISSIONS];
+    let mut all = [0; Machine::PERMISSIONS];
     let mut i = 0;
     while i < Machine::PERMISSIONS {
-        halves[i] = b[State::KINDS + i];
+        all[i] = b[State::KINDS + i];
         i += 1;
     }
-    halves
+    all
 }
 
-// What an expression resolves to: for a path any entry serves, with no half wanted of it.
+// What an expression resolves to: for a path any entry serves that is one.
 pub fn resolve<'a>(key: &'a [u64; State::SLOTS], b: &'a [u8; State::BYTES], e: Term) -> Resolved
     requires { ⌜ Wf (now key) (now b) ⌝ }
     ensures { λ r. ⌜ resolvedAs r ≡ Rules.resolve (equalIn (stateOf (now (key .entry)) (now (b .entry)))) (permissionsOf (now (b .entry))) (meaning e) ⌝ }
@@ -164,8 +173,9 @@ pub fn resolve<'a>(key: &'a [u64; State::SLOTS], b: &'a [u8; State::BYTES], e: T
     let Term::Path(y, f) = e else {
         return Resolved::Key(check_equality::key_of(e));
     };
-    let halves = [0; Machine::PERMISSIONS];
-    path_at(b, entry(key, b, &halves, 0, y, f))
+    let all = kinds(b);
+    let k = check_equality::variable_key(y);
+    path_at(b, entry(key, b, &all, State::READ, State::ACC, k, f))
 }
 
 // Is v a variable other than x, and ~ the term of k, whose label is a?

@@ -1,2 +1,3 @@
 pub mod Ruled
+pub mod Opening
 pub mod Conditions

@@ -7,7 +7,7 @@ use Prim.Native.Nat.{ℕ, suc, _+_, _*_, _-_, _≤_, _<_}
 use native.Mathlib.Omega.{arith}
 use lib.Dec.{eqb}
 use lib.ListN.{getD, set}
-use borrow.Author.Tests.{eq-eqb, ne-eqb, eqb-true}
+use borrow.Author.Tests.{eq-eqb, ne-eqb, eqb-true, lt-ltb}
 use types.Run.{OneOf}
 use denote.Enum.Declared.{tagOf}
 use Rattle.rules.specs.Base.{Try, ok, no, _>>=_, _>>_, check, orElse}
@@ -20,22 +20,22 @@ use Rattle.rules.specs.Rules.{End, actual, substTerm, substAtom, addEqual, setR
 use Rattle.tables.specs.Decode.{run, atomsFrom, fieldsFrom, classAt, fieldCountAt, fieldNameAt, byteAt, classPlace, methodAt, requiresAt, ensuresAt, methodPlace, halfAt}
 use Rattle.tables.specs.Decode as Decode
 use Rattle.check_equality.specs.Keys.{termOf}
-use Rattle.check_equality.specs.Layout.{acc-kind}
+use Rattle.check_equality.specs.Layout.{acc-kind, chain-kind}
 use Rattle.check_equality.specs.Links.{relOf}
 use Rattle.check_equality.proofs.Keys.{same-key, of-null}
 use Rattle.check_entailment.specs.declared.Answer.{Answer}
 use Rattle.check_state.specs.declared.Resolved.{Resolved}
 use Rattle.check_entailment.proofs.Answer.{the-type}
-use Rattle.check_state.specs.States.{Wf, stateOf, entries, variableAt, fieldAt, kindAt, permitOf, permissionAt, permissionsOf}
+use Rattle.check_state.specs.States.{Wf, stateOf, entries, variableAt, fieldAt, kindAt, permitOf, permissionAt, permissionsOf, isPathAt}
 use Rattle.check_state.specs.Questions.{FirstPlace, Bytes, entryTest}
 use Rattle.check_successors.specs.Successors.{termOr}
-use Rattle.check_entries.specs.Entries.{halvesOf, leftOf}
+use Rattle.check_entries.specs.Entries.{entryLeft, leftOf}
 use Rattle.check_forgetting.specs.Changes.{Becomes, withoutPath}
-use Rattle.check_entailment.specs.Answers.{answered, Adds}
-use Rattle.check_entries.proofs.Halves.{all-left}
+use Rattle.check_entailment.specs.Answers.{answered, mostServing, Adds}
 use Rattle.check_entailment.proofs.Splits.{left-none, left-first}
+use Rattle.check_entailment.proofs.Showing.{serving}
 use Rattle.check_formulas.specs.Formulas.{formula, Shows}
-use Rattle.check_formulas.proofs.Atoms.{not-done, is-done}
+use Rattle.check_formulas.proofs.Atoms.{not-done, is-done, start-fits, start-left}
 use Rattle.check_statements.specs.Statements.{assignTerm, callShown, initialOf, Says, Asserts, endOf, releaseRule}
 
 abbrev pub Refused : Answer → Type 0
@@ -69,35 +69,42 @@ adds-no k key b w t e = record { wf = w; same = sym e }
 
 -- SET
 module _ (key b : List ℕ) (w : Wf key b) (kinds : List ℕ) (B : Bytes (kindAt b) most-permissions kinds) (x f y i : ℕ)
-    (F : FirstPlace (entryTest b kinds acc-kind x f (equalIn (stateOf key b))) (entries b) i) where
+    (F : FirstPlace (entryTest b kinds acc-kind acc-kind (var x) f (equalIn (stateOf key b))) (entries b) i) where
   kind-at : (j : ℕ) → j < entries b → getD kinds j 0 ≡ kindAt b j
   kind-at j h = B .at j (omega (arith, w .fit))
 
-  most : (j : ℕ) → j < entries b → getD kinds j 0 ≤ acc-kind
+  most : (j : ℕ) → j < entries b → getD kinds j 0 ≤ chain-kind
   most j h = omega (arith, kind-at j h, w .kinds j h .1)
 
   all : leftOf b kinds ≡ permissionsOf b
-  all = all-left b kinds (entries b) kind-at (w .kinds)
+  all = start-left key b kinds w B
 
   abbrev given : List Permission → Option Split
-  given l = split (giving (equalIn (stateOf key b)) acc x f) l
+  given l = split (giving (equalIn (stateOf key b)) acc (var x) f) l
 
   pub set-refused : entries b ≤ i → setRule x f y (stateOf key b) ≡ no noPermission
-  unfolding setRule orElse _>>=_ permitOf
+  unfolding setRule orElse _>>=_ permitOf mostServing
   set-refused h =
       let e : given (permissionsOf b) ≡ none =
       subst (λ (l : List Permission). given l ≡ none) all
-      (left-none b kinds (equalIn (stateOf key b)) acc-kind x f (entries b) i (omega arith, omega arith) most F h) in
+      (left-none b kinds (equalIn (stateOf key b)) acc-kind (var x) f (entries b) i (omega arith, omega arith) most F h) in
       rw e
 
   shown-by : i < entries b → (c : Split) × (given (permissionsOf b) ≡ some c) × (c .taken ≡ permissionAt b i)
-  unfolding permitOf
+  unfolding permitOf mostServing
   shown-by h =
-      let c : Split = record { taken = permissionAt b i; left = halvesOf (getD kinds i 0 - acc-kind) (variableAt b i) (fieldAt b i); list = leftOf b (set kinds i (getD kinds i 0 - acc-kind)) } in
+      let c : Split = record { taken = permissionAt b i; left = entryLeft (getD kinds i 0 - acc-kind) (variableAt b i) (fieldAt b i); list = leftOf b (set kinds i (getD kinds i 0 - acc-kind)) } in
       let e : given (leftOf b kinds) ≡ some c =
-      left-first b kinds (equalIn (stateOf key b)) acc-kind x f (entries b) i (omega arith, omega arith) most F h (omega (arith, B .size, w .fit))
+      left-first b kinds (equalIn (stateOf key b)) acc-kind (var x) f (entries b) i (omega arith, omega arith) most F h (omega (arith, B .size, w .fit))
       ∙ rw (kind-at i h) in
       (c, subst (λ (l : List Permission). given l ≡ some c) all e, refl)
+
+  -- an `acc` is a listed path
+  pub set-path : i < entries b → isPathAt b i ≡ true
+  unfolding mostServing
+  set-path h =
+      let fit = serving key b w kinds (start-fits key b kinds w B) acc-kind (var x) f i (omega arith, omega arith) F h in
+      lt-ltb (kindAt b i) chain-kind (omega (arith, kind-at i h, fit .1))
 
   pub set-found : i < entries b → setRule x f y (stateOf key b) ≡ Rules.addFact eq (path (variableAt b i) (fieldAt b i)) (var y) (withoutPath key b i)
   unfolding setRule orElse _>>=_ pathOf
@@ -247,17 +254,24 @@ module _ (w : List ℕ) (x y m z : ℕ) (key b : List ℕ) (a n c o : ℕ) (ea :
   call-done e key₁ b₁ key₂ b₂ R Q r key₃ b₃ A =
       adds-same _ _ r key₃ b₃ (sym (shown-first ∙ is-done k e _ _ ∙ rw (← R .same, ← Q .same))) A
 
+-- is y ≠ null shown?
+pub object-shown :
+    (y v : ℕ) (s : Rules.State) (c : Bool) → termOf v ≡ var y → c ≡ holdsIn (equalIn s) s (relOf true) (termOf v) (termOf 256) →
+    holdsIn (equalIn s) s ne (var y) null ≡ c
+unfolding relOf
+object-shown y v s c d e = rw (← d, ← of-null) (sym e)
+
 pub call-null :
     (w : List ℕ) (x y m z v : ℕ) (s : Rules.State) → termOf v ≡ var y → false ≡ holdsIn (equalIn s) s (relOf true) (termOf v) (termOf 256) →
     callRule x y (methodAt w m) z s ≡ no notShown
-unfolding callRule check _>>_ relOf
-call-null w x y m z v s d e = let h : holdsIn (equalIn s) s ne (var y) null ≡ false = rw (← d, ← of-null) (sym e) in rw h
+unfolding callRule check _>>_
+call-null w x y m z v s d e = rw (object-shown y v s false d e)
 
 pub call-object :
     (w : List ℕ) (x y m z v : ℕ) (s : Rules.State) → termOf v ≡ var y → true ≡ holdsIn (equalIn s) s (relOf true) (termOf v) (termOf 256) →
     callShown x y (methodAt w m) z s ≡ callRule x y (methodAt w m) z s
-unfolding callRule callShown check _>>_ relOf
-call-object w x y m z v s d e = let h : holdsIn (equalIn s) s ne (var y) null ≡ true = rw (← d, ← of-null) (sym e) in rw h
+unfolding callRule callShown check _>>_
+call-object w x y m z v s d e = rw (object-shown y v s true d e)
 
 pub new-law :
     (w : List ℕ) (x c n : ℕ) (s t : Rules.State) → n ≡ fieldCountAt w c → t ≡ Rules.remove x s →

@@ -7,9 +7,10 @@ use Prim.Native.Nat.{ℕ, _-_}
 use lib.Dec.{eqb}
 use Rattle.rules.specs.Base.{Try, ok, _>>=_}
 use Rattle.rules.specs.Answers.{Refusal}
-use Rattle.rules.specs.Syntax.{Formula, Rel, Method, same, num, null, var, cmp}
+use Rattle.rules.specs.Syntax.{Formula, Rel, Method, same, eq, num, null, var, path, acc, chain, cmp}
 use Rattle.rules.specs.Rules.{End, addEqual, actual, substAtom, showEnd, joinRule}
 use Rattle.rules.specs.State as Rules
+use Rattle.rules.specs.State.{entry}
 use Rattle.tables.specs.Decode.{leftAt, rightAt, atomsFrom}
 use Rattle.check_entailment.specs.declared.Answer.{Answer}
 use Rattle.check_state.specs.States.{Wf, stateOf}
@@ -57,6 +58,26 @@ unfoldable pub callShown : ℕ → ℕ → Method → ℕ → Rules.State → Tr
 callShown x y M z s = do
   r ← Rules.show s (map (substAtom (actual y z x)) (M .requires))
   Rules.add (map (substAtom (actual y z x)) (M .ensures)) (Rules.remove x (Rules.remainder s r))
+
+-- what `open` adds: `x.f`, `x.f` = y, and the chain of y
+unfoldable pub addOpened : ℕ → ℕ → ℕ → Rules.State → Try Refusal Rules.State
+addOpened y x f s = do
+  s₁ ← Rules.addPermission (entry acc x f) s
+  s₂ ← Rules.addFact eq (path x f) (var y) s₁
+  Rules.addPermission (entry chain y f) s₂
+
+-- `open y x f`, where x ≠ null is shown
+unfoldable pub openShown : ℕ → ℕ → ℕ → Rules.State → Try Refusal Rules.State
+openShown y x f s = do
+  r ← Rules.takeOwn (Rules.equalIn s) chain (var x) f (s .permissions)
+  addOpened y x f (Rules.remove y (Rules.remainder s r))
+
+-- `shut x f`, where `x.f` resolves to t
+unfoldable pub shutPath : ℕ → ℕ → Rules.Term → Rules.State → Try Refusal Rules.State
+shutPath x f t s = do
+  r ← Rules.takeOwn (Rules.equalIn s) chain t f (s .permissions)
+  r′ ← Rules.takeOwn (Rules.equalIn s) acc (var x) f r
+  Rules.addPermission (entry chain x f) (Rules.remainder s r′)
 
 -- a field's first value, by its kind
 unfoldable pub initialOf : ℕ → Rules.Term

@@ -1,10 +1,13 @@
 // The rule of each statement.
 mod branches;
+mod chains;
 mod objects;
 
 pub use branches::if_rule;
 pub use branches::join_rule;
 pub use branches::loop_rule;
+pub use chains::open_rule;
+pub use chains::shut_rule;
 use check_entailment::Answer;
 use check_equality::State;
 use check_equality::Term;
@@ -36,7 +39,8 @@ pub fn set_rule(
     ensures { λ r. ⌜ Adds (setRule x f y (stateOf (now (key .entry)) (now (b .entry)))) r (now (key .exit)) (now (b .exit)) ⌝ }
 {
     let kinds = check_state::kinds(b);
-    let i = check_state::entry(key, b, &kinds, State::ACC, x, f);
+    let v = check_equality::variable_key(x);
+    let i = check_state::entry(key, b, &kinds, State::ACC, State::ACC, v, f);
     if i < (b[State::ENTRIES] as usize) {
         let path = check_equality::path_key(b[State::VARIABLES + i], b[State::FIELDS + i]);
         check_forgetting::without_path(key, b, i, path);

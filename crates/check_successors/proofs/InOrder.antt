@@ -1,6 +1,6 @@
 -- The searches one after the other are the search for a successor.
 use mathlib.Core.Path.{_≡_, refl, sym, ap, _∙_}
-use mathlib.Core.Bool.{Bool, true, false, cond, not, _&&_}
+use mathlib.Core.Bool.{Bool, true, false, cond, _&&_}
 use mathlib.Core.List.{List, [], _∷_, _++_, map}
 use mathlib.Core.Option.{Option, none, some}
 use Prim.Native.Nat.{ℕ, zero, suc, _+_, _*_, _-_, _≤_, _<_}
@@ -10,12 +10,12 @@ use borrow.Author.Tests.{lt-ltb, le-ltb}
 use Rattle.rules.specs.Base.{first, bindOption}
 use Rattle.rules.specs.Syntax.{num, null, var}
 use Rattle.rules.specs.State as Rules
-use Rattle.rules.specs.State.{Term, Fact, Permission, Renaming, Equality, isLeft, pathOf, numbers, termsOf, rising, inOrder, variables, equalIn, equalBy, representative}
+use Rattle.rules.specs.State.{Term, Fact, Permission, Renaming, Equality, isLeft, pathOf, paths, numbers, termsOf, rising, inOrder, variables, equalIn, equalBy, representative}
 use Rattle.check_equality.specs.Keys.{termOf}
 use Rattle.check_equality.proofs.Keys.{of-number}
 use Rattle.check_equality.specs.Listing.{listed}
 use Rattle.check_equality.proofs.Listing.{first-append, first-stays, first-here, first-found}
-use Rattle.check_state.specs.States.{Wf, factAt, factsIn, factsOf, facts, entries, stateOf, pathAtEntry}
+use Rattle.check_state.specs.States.{Wf, factAt, factsIn, factsOf, facts, entries, stateOf, leftAt, pathAtEntry}
 use Rattle.check_state.specs.Questions.{Slots, FirstPlace, standsFor}
 use Rattle.check_state.proofs.Entries.{first-none}
 use Rattle.check_successors.specs.Successors.{Drops, pathTest, entryPathTest, numberOr, sideTerms, leastNumber}
@@ -81,7 +81,7 @@ module _ (key b : List ℕ) (skip : List Bool) (x t : ℕ) (ρ : Renaming) (ps :
   abbrev found : Option Term
   found = Rules.successor (equalIn (stateOf key b)) ρ ps (factsOf key b) (termOf t)
 
-  found-is : found ≡ first test (map var variables ++ (map pathOf ps ++ (null ∷ map num (rising (numbers (termsOf (factsOf key b)))))))
+  found-is : found ≡ first test (map var variables ++ (map pathOf (paths ps) ++ (null ∷ map num (rising (numbers (termsOf (factsOf key b)))))))
   unfolding Rules.successor inOrder equalIn
   found-is = refl
 
@@ -102,12 +102,12 @@ module _ (key b : List ℕ) (skip : List Bool) (x t : ℕ) (ρ : Renaming) (ps :
         sym (found-is ∙ first-stays test (map var variables) _ (var v) (rw variables-listed (place-found test var 15 v by-variable h)))
 
     module _ (no-variable : 15 ≤ v) (i : ℕ) (E₀ : FirstPlace (entryPathTest alike b skip t) (entries b) i) where
-      past-variables : found ≡ first test (map pathOf ps ++ (null ∷ map num (rising (numbers (termsOf (factsOf key b))))))
+      past-variables : found ≡ first test (map pathOf (paths ps) ++ (null ∷ map num (rising (numbers (termsOf (factsOf key b))))))
       past-variables =
           found-is ∙ first-append test (map var variables) _ (rw variables-listed (place-none test var 15 v by-variable no-variable))
 
       abbrev entryTest : ℕ → Bool
-      entryTest j = not (getD skip j false) && alike (pathAtEntry b j) (termOf t)
+      entryTest j = leftAt b skip j && alike (pathAtEntry b j) (termOf t)
 
       by-entry : FirstPlace entryTest (entries b) i
       unfolding pathTest
@@ -118,7 +118,7 @@ module _ (key b : List ℕ) (skip : List Bool) (x t : ℕ) (ρ : Renaming) (ps :
       is-path h =
           sym
           (past-variables
-          ∙ first-stays test (map pathOf ps) _ (pathAtEntry b i)
+          ∙ first-stays test (map pathOf (paths ps)) _ (pathAtEntry b i)
           (W .paths (λ u. alike u (termOf t))
           ∙ ap (λ (o : Option ℕ). bindOption o (λ j. some (pathAtEntry b j))) (place-found entryTest (λ j. j) (entries b) i by-entry h)))
 
@@ -127,7 +127,7 @@ module _ (key b : List ℕ) (skip : List Bool) (x t : ℕ) (ρ : Renaming) (ps :
         unfolding bindOption
         past-paths =
             past-variables
-            ∙ first-append test (map pathOf ps) _
+            ∙ first-append test (map pathOf (paths ps)) _
             (W .paths (λ u. alike u (termOf t))
             ∙ ap (λ (o : Option ℕ). bindOption o (λ j. some (pathAtEntry b j))) (place-none entryTest (λ j. j) (entries b) i by-entry no-path))
 

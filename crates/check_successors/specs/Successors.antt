@@ -8,13 +8,13 @@ use lib.Dec.{eqb, ltb, leb}
 use lib.ListN.{length, getD}
 use Rattle.rules.specs.Base.{first, bindOption}
 use Rattle.rules.specs.Syntax.{offset, num, null, var, path}
-use Rattle.rules.specs.State.{Term, Equality, Renaming, Permission, isLeft, pathOf, numbers, rising, equalIn, successor}
+use Rattle.rules.specs.State.{Term, Equality, Renaming, Permission, isLeft, pathOf, paths, numbers, rising, equalIn, successor}
 use Rattle.check_equality.specs.Layout.{left-sides, null-slot, mark-count}
 use Rattle.check_equality.specs.Keys.{termOf, first-number}
 use Rattle.check_equality.specs.Links.{termAt, placeOf}
 use Rattle.check_equality.specs.Listing.{listed}
 use Rattle.check_state.specs.declared.Resolved.{Resolved}
-use Rattle.check_state.specs.States.{variableAt, fieldAt, pathAtEntry, entries, stateOf, factsOf}
+use Rattle.check_state.specs.States.{variableAt, fieldAt, leftAt, pathAtEntry, entries, stateOf, factsOf}
 use Rattle.check_state.specs.Questions.{places}
 use Rattle.check_inequality.specs.Ways.{numberLike}
 
@@ -58,13 +58,13 @@ pub record MarksLike (key b : List ℕ) (m t a : ℕ) (marks : List Bool) : Type
   pub own : getD marks (placeOf t) false ≡ true
   pub at : (i : ℕ) → left-sides ≤ i → i < m → getD b i 0 ≡ a → getD marks (placeOf (getD key i 0)) false ≡ true
 
--- the path `x.f` is not to be skipped, and is ~ the term of t
+-- the path `x.f` is left, and is ~ the term of t
 unfoldable pub pathTest : Equality → Bool → ℕ → ℕ → ℕ → Bool
-pathTest _~_ skip x f t = not skip && _~_ (path x f) (termOf t)
+pathTest _~_ left x f t = left && _~_ (path x f) (termOf t)
 
--- of the entry i
+-- that of the entry i
 abbrev pub entryPathTest : Equality → List ℕ → List Bool → ℕ → ℕ → Bool
-entryPathTest _~_ b skip t i = pathTest _~_ (getD skip i false) (variableAt b i) (fieldAt b i) t
+entryPathTest _~_ b skip t i = pathTest _~_ (leftAt b skip i) (variableAt b i) (fieldAt b i) t
 
 -- SUCCESSORS
 -- a term by its key, or none
@@ -79,8 +79,8 @@ pub record Drops (ρ : Renaming) (ps : List Permission) (b : List ℕ) (skip : L
   pub numbers : (n : ℕ) → isLeft ρ (num n) ≡ true
   pub paths :
       (q : Term → Bool) →
-      first (λ u. isLeft ρ u && q u) (map pathOf ps)
-      ≡ bindOption (first (λ i. not (getD skip i false) && q (pathAtEntry b i)) (places (entries b))) (λ i. some (pathAtEntry b i))
+      first (λ u. isLeft ρ u && q u) (map pathOf (paths ps))
+      ≡ bindOption (first (λ i. leftAt b skip i && q (pathAtEntry b i)) (places (entries b))) (λ i. some (pathAtEntry b i))
 
 -- r is the successor of the term of t, whatever drops that
 abbrev pub IsSuccessor : List ℕ → List ℕ → List Bool → ℕ → ℕ → Resolved → Type 0

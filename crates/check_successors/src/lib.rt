@@ -122,22 +122,22 @@ fn marks_like<'a>(
     }
 }
 
-// Is the path x.f not to be skipped, and ~ the term of t?
+// Is the path x.f left, and ~ the term of t?
 fn path_like<'a>(
     key: &'a [u64; State::SLOTS],
     b: &'a [u8; State::BYTES],
     m: usize,
     marks: &'a [bool; State::MARKS],
-    skip: bool,
+    left: bool,
     x: u8,
     f: u8,
     t: u64,
     a: u8,
 ) -> bool
     requires { ⌜ Slots (now key) (now b) m × Labelled (now key) (now b) m t a × MarksLike (now key) (now b) m t a (now marks) ⌝ }
-    ensures { λ r. ⌜ Told (now (key .entry)) (now (b .entry)) m (λ same. r ≡ pathTest same skip x f t) ⌝ }
+    ensures { λ r. ⌜ Told (now (key .entry)) (now (b .entry)) m (λ same. r ≡ pathTest same left x f t) ⌝ }
 {
-    if skip {
+    if !left {
         return false;
     }
     let k = check_equality::path_key(x, f);
@@ -149,7 +149,7 @@ fn path_like<'a>(
     check_equality::alike(k, c, t, a)
 }
 
-// The first of n entries that is not to be skipped and whose path is ~ the term of t, or n.
+// The first of n entries that is a path, not to be skipped and ~ the term of t, or n.
 fn first_entry<'a>(
     key: &'a [u64; State::SLOTS],
     b: &'a [u8; State::BYTES],
@@ -171,7 +171,7 @@ fn first_entry<'a>(
             b,
             m,
             &marks,
-            skip[i],
+            !skip[i] & (b[State::KINDS + i] < State::CHAIN),
             b[State::VARIABLES + i],
             b[State::FIELDS + i],
             t,

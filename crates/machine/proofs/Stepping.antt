@@ -5,16 +5,16 @@ use mathlib.Core.Logic.{_⊎_, inl, inr, ⊎-elim}
 use Prim.Native.Nat.{ℕ, _+_, _≤_}
 use native.Mathlib.Omega.{arith}
 use lib.Dec.{T}
-use Rattle.rules.specs.Grammar.{Set, Let, New, Call, Return, Assert, Release, If, Join, Loop, End, IsStatementNumber, statementNumber, isComputing}
+use Rattle.rules.specs.Grammar.{Set, Let, New, Call, Return, Assert, Release, If, Join, Loop, End, Open, Shut, IsStatementNumber, statementNumber, isComputing}
 use Rattle.rules.specs.Syntax.{Row, Stmt}
 use Rattle.rules.specs.Machine.{Config, Step, Room, statementOf, step, stepAt, simpleStep}
 use Rattle.rules.specs.declared.Machine.{Machine}
 use Rattle.rules.proofs.Lists.{decide-eq}
 use Rattle.tables.specs.Decode.{rowAt, operandsAt, stmtAt, kindAt, memberAt, programIn}
 use Rattle.tables.proofs.Rows.{method-get, class-get}
-use Rattle.tables.proofs.Statements.{set-means, let-means, new-means, call-means, return-means, assert-means, release-means, if-means, else-means, join-means, loop-means, again-means, end-means, compute-means}
+use Rattle.tables.proofs.Statements.{set-means, let-means, new-means, call-means, return-means, assert-means, release-means, if-means, else-means, join-means, loop-means, again-means, open-means, shut-means, end-means, compute-means}
 use Rattle.run_steps.specs.declared.Turn.{Turn}
-use Rattle.run_steps.specs.States.{Represents, Follows, Does, CanStep, AtKind, Jumps, setHere, letHere, computeHere, assertHere, releaseHere, ifHere, loopHere, jumpHere}
+use Rattle.run_steps.specs.States.{Represents, Follows, Does, CanStep, AtKind, Jumps, setHere, letHere, computeHere, assertHere, releaseHere, openHere, shutHere, ifHere, loopHere, jumpHere}
 use Rattle.run_returns.proofs.Returning.{row-of}
 use Rattle.run_steps.proofs.Doing.{fits}
 use Rattle.run_calls.specs.Calls.{newHere, callHere}
@@ -32,19 +32,20 @@ up a k l n = omega arith
 -- a statement that is none of the others is `add` or `sub`
 pub is-computing :
     (k : ℕ) → IsStatementNumber k → (k ≡ 8 → ⊥) → (k ≡ 9 → ⊥) → (k ≡ 10 → ⊥) → (k ≡ 11 → ⊥) → (k ≡ 12 → ⊥) →
-    ((k ≡ 13) ⊎ (k ≡ 17) → ⊥) → (k ≡ 14 → ⊥) → (k ≡ 15 → ⊥) → (k ≡ 21 → ⊥) → ((k ≡ 16) ⊎ (k ≡ 22) → ⊥) → (k ≡ 18 → ⊥) → T (isComputing k)
+    ((k ≡ 13) ⊎ (k ≡ 17) → ⊥) → (k ≡ 14 → ⊥) → (k ≡ 15 → ⊥) → (k ≡ 21 → ⊥) → ((k ≡ 16) ⊎ (k ≡ 22) → ⊥) → (k ≡ 23 → ⊥) →
+    (k ≡ 24 → ⊥) → (k ≡ 18 → ⊥) → T (isComputing k)
 unfolding isComputing statementNumber
-is-computing k (low, high) a b c d e f g i o j n =
+is-computing k (low, high) a b c d e f g i o j p q n =
     let l1 : 13 ≤ k = up 12 k (up 11 k (up 10 k (up 9 k (up 8 k low a) b) c) d) e in
     let l2 : 17 ≤ k = up 16 k (up 15 k (up 14 k (up 13 k l1 (λ z. f (inl z))) g) i) (λ z. j (inl z)) in
     let l3 : 19 ≤ k = up 18 k (up 17 k l2 (λ z. f (inr z))) n in
     ⊎-elim (λ z. rw z tt) (λ n19. ⊎-elim (λ z. rw z tt) (λ n20.
-    let l4 : 23 ≤ k = up 22 k (up 21 k (up 20 k (up 19 k l3 n19) n20) o) (λ z. j (inr z)) in
+    let l4 : 25 ≤ k = up 24 k (up 23 k (up 22 k (up 21 k (up 20 k (up 19 k l3 n19) n20) o) (λ z. j (inr z))) p) q in
     absurd (omega (arith, l4, high))) (decide-eq k 20)) (decide-eq k 19)
 
 -- no statement has a higher number
-pub past-all : (k : ℕ) → IsStatementNumber k → 21 ≤ k → (k ≡ 21 → ⊥) → ((k ≡ 16) ⊎ (k ≡ 22) → ⊥) → ⊥
-past-all k (low, high) l o j = omega (arith, high, up 22 k (up 21 k l o) (λ z. j (inr z)))
+pub past-all : (k : ℕ) → IsStatementNumber k → 21 ≤ k → (k ≡ 21 → ⊥) → ((k ≡ 16) ⊎ (k ≡ 22) → ⊥) → (k ≡ 23 → ⊥) → (k ≡ 24 → ⊥) → ⊥
+past-all k (low, high) l o j p q = omega (arith, high, up 24 k (up 23 k (up 22 k (up 21 k l o) (λ z. j (inr z))) p) q)
 
 module _ {w w′ : List ℕ} {c : Machine} {r : Turn} (ready : CanStep w c) (room : Room) where
   does-as :
@@ -120,6 +121,14 @@ module _ {w w′ : List ℕ} {c : Machine} {r : Turn} (ready : CanStep w c) (roo
   unfolding stepAt programIn statementNumber
   jumps (inl k) = does-as _ (λ m. rw (else-means w (operandsAt w (c .row)) k, k))
   jumps (inr k) = does-as _ (λ m. rw (again-means w (operandsAt w (c .row)) k, k))
+
+  pub opens : AtKind w c Open → Does w c w′ r (openHere w c) → Does w c w′ r (step room (programIn w))
+  unfolding stepAt simpleStep statementNumber
+  opens k = does-as _ (λ m. rw (open-means w (operandsAt w (c .row)) k))
+
+  pub shuts : AtKind w c Shut → Does w c w′ r (shutHere w c) → Does w c w′ r (step room (programIn w))
+  unfolding stepAt simpleStep statementNumber
+  shuts k = does-as _ (λ m. rw (shut-means w (operandsAt w (c .row)) k))
 
   pub computes : T (isComputing (kindAt w (c .row))) → Does w c w′ r (computeHere w c) → Does w c w′ r (step room (programIn w))
   unfolding stepAt simpleStep statementNumber

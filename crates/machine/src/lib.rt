@@ -94,6 +94,8 @@ pub fn step(work: &mut [u8], c: Machine, most_objects: u32, most_fields: u32) ->
         Kind::IF => run_steps::if_step(work, c),
         Kind::LOOP => run_steps::loop_step(work, c),
         Kind::ELSE | Kind::AGAIN => run_steps::jump_step(work, c),
+        Kind::OPEN => run_steps::open_step(work, c),
+        Kind::SHUT => run_steps::shut_step(work, c),
         Kind::ADD | Kind::SUB => run_steps::compute_step(work, c),
         // No row is of another kind, so that any answer meets the contract.
         0..=Kind::VAR | UNKNOWN..=u8::MAX => Turn::Done,

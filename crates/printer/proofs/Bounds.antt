@@ -14,12 +14,12 @@ use Rattle.rules.specs.Base.{Name, Try, ok, no, update}
 use Rattle.rules.specs.Limits.{most-bytes}
 use Rattle.rules.specs.Answers.{Refusal, Verdict, accepted, refused, atLine, then, textTooLong, textEnds, unframed}
 use Rattle.rules.specs.Syntax.{Expr, Formula, Stmt, Simple, Row, Method, Program, num, null, var, path}
-use Rattle.rules.specs.Syntax.{set, assign, compute, new, call, return, assert, release, simple, if, else, join, loop, again, end}
+use Rattle.rules.specs.Syntax.{set, assign, compute, new, call, return, assert, release, openChain, shutChain, simple, if, else, join, loop, again, end}
 use Rattle.rules.specs.Text.{lines, onto, exprOf, numeral, hasStop, beforeStop, afterStop, number}
 use Rattle.rules.specs.Grammar as Grammar
 use Rattle.rules.specs.Grammar.{Kind, Statement, Line}
 use Rattle.rules.specs.Grammar.{Class, Field, Requires, Ensures, Main, Var, statement}
-use Rattle.rules.specs.Grammar.{Set, Let, New, Call, Return, Assert, Release, If, Else, Join, End, Add, Sub, Loop, Again}
+use Rattle.rules.specs.Grammar.{Set, Let, New, Call, Return, Assert, Release, If, Else, Join, End, Add, Sub, Loop, Again, Open, Shut}
 use Rattle.rules.specs.Places.{Place, firstPlace, scanLine, scanLines, ended}
 use Rattle.rules.specs.Scope.{Declarations, Variable, Scope, operand, declarations, firstScope, scopeAfter}
 use Rattle.rules.specs.Items.{Item, aClass, aField, aMethod, aRequires, anEnsures, aMain, aLocal, aStatement}
@@ -27,7 +27,7 @@ use Rattle.rules.specs.Items.{resolveExpr, resolveStatement, itemOf, resolveLin
 use Rattle.rules.specs.Reading.{readText, framedItem, checkFramed, noProgram, withItem, withItems, program}
 use Rattle.rules.specs.State.{State}
 use Rattle.rules.specs.Rules as Rules
-use Rattle.rules.specs.Rules.{Following, Open, inFirst, inSecond, inLoop, reached, checkRow, checkRows, checkFrom, elseRow, joinRow, againRow, endRow, checkMethod, checkBlocks, checkProgram}
+use Rattle.rules.specs.Rules.{Following, inFirst, inSecond, inLoop, reached, checkRow, checkRows, checkFrom, elseRow, joinRow, againRow, endRow, checkMethod, checkBlocks, checkProgram}
 use Rattle.rules.specs.Calls.{checkItems}
 use Rattle.rules.proofs.Tries.{refused-accepted, accepted-inj, atLine-accepted, then-accepted}
 use Rattle.rules.proofs.Signs.{number-small}
@@ -166,6 +166,8 @@ SmallSimple (new x c) = Unit {0}
 SmallSimple (call x y m z) = Unit {0}
 SmallSimple (assert φ) = Unit {0}
 SmallSimple (release φ) = Unit {0}
+SmallSimple (openChain y x f) = Unit {0}
+SmallSimple (shutChain x f) = Unit {0}
 
 abbrev pub SmallStmt : Stmt → Type 0
 SmallStmt (simple p) = SmallSimple p
@@ -211,7 +213,7 @@ module _ (Γ : Declarations) (vs : List Variable) where
   statement-small :
       (a : Statement) (ws : List Name) →
       SmallItem (aStatement (resolveStatement Γ vs a (lineOf (statement a) ws)))
-  unfolding resolveStatement Rattle.rules.specs.Items.resolveSet Rattle.rules.specs.Items.resolveCompute Rattle.rules.specs.Items.resolveCall Rattle.rules.specs.Items.resolveIf Rattle.rules.specs.Items.resolveLoop
+  unfolding resolveStatement Rattle.rules.specs.Items.resolveSet Rattle.rules.specs.Items.resolveCompute Rattle.rules.specs.Items.resolveCall Rattle.rules.specs.Items.resolveIf Rattle.rules.specs.Items.resolveLoop Rattle.rules.specs.Items.resolveOpen
   statement-small Set ws = tt
   statement-small Let ws = expr-small (operand (lineOf (statement Let) ws) 1)
   statement-small New ws = tt
@@ -227,6 +229,8 @@ module _ (Γ : Declarations) (vs : List Variable) where
   statement-small Sub ws = tt
   statement-small Loop ws = tt
   statement-small Again ws = tt
+  statement-small Open ws = tt
+  statement-small Shut ws = tt
 
   item-small : (k : Kind) (ws : List Name) → SmallItem (itemOf Γ vs k (lineOf k ws))
   unfolding itemOf
@@ -284,7 +288,7 @@ module _ (n : ℕ) where
 
   module _ (P : Program) (φ : Formula ℕ) where
     row-within :
-        (st : Stmt) (l : ℕ) (k : Following) (e : Rules.End) (os : List Open) → l ≤ n → ((e : Rules.End) (os : List Open) → Within n (k e os)) →
+        (st : Stmt) (l : ℕ) (k : Following) (e : Rules.End) (os : List Rules.Open) → l ≤ n → ((e : Rules.End) (os : List Rules.Open) → Within n (k e os)) →
         Within n (checkRow P st l φ k e os)
     unfolding checkRow elseRow joinRow againRow endRow
     row-within (simple p) l k e os h x = reached-within l e _ h (λ s. at-within n l _ _ h (λ a. x _ os))
@@ -306,7 +310,7 @@ module _ (n : ℕ) where
     row-within end l k e [] h x = at-within n l _ _ h (λ a. tt)
     row-within end l k e (o ∷ os) h x = h
 
-    rows-within : (rs : List Row) (e : Rules.End) (os : List Open) → All (RowFits n) rs → Within n (checkRows P φ rs e os)
+    rows-within : (rs : List Row) (e : Rules.End) (os : List Rules.Open) → All (RowFits n) rs → Within n (checkRows P φ rs e os)
     unfolding checkRows
     rows-within [] e os x = omega arith
     rows-within (r ∷ rs) e os x =

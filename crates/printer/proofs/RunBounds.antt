@@ -11,12 +11,12 @@ use Rattle.rules.specs.Base.{ok}
 use Rattle.rules.specs.Limits.{most-frames}
 use Rattle.rules.specs.Answers.{Ending, finished, stepsTaken, stopped, heapFull, framesFull, nullFollowed, overflow}
 use Rattle.rules.specs.Syntax.{Expr, Formula, Operation, Stmt, Simple, Row, Field, Method, Program, num, null, var, path}
-use Rattle.rules.specs.Syntax.{set, assign, compute, new, call, return, assert, release, simple, if, else, join, loop, again, end}
+use Rattle.rules.specs.Syntax.{set, assign, compute, new, call, return, assert, release, openChain, shutChain, simple, if, else, join, loop, again, end}
 use Rattle.rules.specs.Syntax.{noRow, rowNumbered, methodNumbered, result-variable}
 use Rattle.rules.specs.Machine as Machine
 use Rattle.rules.specs.Machine.{Cell, Heap, Location, Frame, Config, Room, Step, Outcome, on, stop, done}
 use Rattle.rules.specs.Machine.{valueIn, object, valueAt, storeIn, store, valueOf, locate, value, footprint, jump, advance, bind, holding, withFrame, choose, elseStep}
-use Rattle.rules.specs.Machine.{ifStep, loopStep, againStep, stored, setStep, assignStep, raised, inRange, computed, computeStep, newCell, grown, newStep, entryValues, callFrame, entered, callStep, statementOf, returned, assertStep, releaseStep, endStep, returnStep, mainFrame, ends, goOn, simpleStep, stepAt, step, run, start, runProgram}
+use Rattle.rules.specs.Machine.{ifStep, loopStep, againStep, stored, setStep, assignStep, raised, inRange, computed, computeStep, newCell, grown, newStep, entryValues, callFrame, entered, callStep, statementOf, returned, assertStep, releaseStep, takeWalk, openStep, shutStep, endStep, returnStep, mainFrame, ends, goOn, simpleStep, stepAt, step, run, start, runProgram}
 use Rattle.rules.proofs.Lists.{update-length, and-both}
 use Rattle.rules.proofs.Tries.{ok-inj, bind-ok, check-ok}
 use Rattle.rules.proofs.States.{on-inj, took-on}
@@ -205,6 +205,23 @@ module _ (n : ℕ) where
       let (A, _, k) = bind-ok (footprint (m .heap) (m .frame) φ) i in
       subst Fit (ok-inj k) (with-frame m _ z (advance-fits _ (holding-fits (m .frame) _ (z .frame))))
 
+  open-fits : (m m′ : Config) (y x f : ℕ) → Fit m → openStep y x f m ≡ ok m′ → Fit m′
+  unfolding openStep
+  open-fits m m′ y x f z i =
+      let o : ℕ = valueOf (m .frame) x in
+      let (_, i₁) = check-ok (not (eqb o 0)) nullFollowed i in
+      let (A, _, k) = bind-ok (takeWalk (m .heap) (m .frame) f o []) i₁ in
+      subst Fit (ok-inj k)
+      (with-frame m _ z (advance-fits _ (bind-fits (m .frame) y _ (z .frame) (value-at (m .heap) o f (z .heap)))))
+
+  shut-fits : (m m′ : Config) (x f : ℕ) → Fit m → shutStep x f m ≡ ok m′ → Fit m′
+  unfolding shutStep
+  shut-fits m m′ x f z i =
+      let (v, _, i₁) = bind-ok (value (m .heap) (m .frame) (path x f)) i in
+      let (A, _, i₂) = bind-ok (takeWalk (m .heap) (m .frame) f v []) i₁ in
+      let (p, _, k) = bind-ok (locate (m .frame) A 2 x f) i₂ in
+      subst Fit (ok-inj k) (with-frame m _ z (advance-fits (m .frame) (z .frame)))
+
   if-fits : (m m′ : Config) (rs : List Row) (r : Rattle.rules.specs.Syntax.Rel) (a b : Expr ℕ) → Fit m → ifStep rs r a b m ≡ ok m′ → Fit m′
   unfolding ifStep choose
   if-fits m m′ rs r a b z i =
@@ -248,6 +265,8 @@ module _ (n : ℕ) where
         call-fits m m′ y (methodNumbered P k) v z i
     simple-fits (assert φ) m m′ s z i = assert-fits m m′ φ z i
     simple-fits (release φ) m m′ s z i = release-fits m m′ φ z i
+    simple-fits (openChain y x f) m m′ s z i = open-fits m m′ y x f z i
+    simple-fits (shutChain x f) m m′ s z i = shut-fits m m′ x f z i
 
     at-fits : (st : Stmt) (m m′ : Config) → SmallStmt st → Fit m → stepAt room P st m ≡ on m′ → Fit m′
     unfolding stepAt elseStep loopStep againStep

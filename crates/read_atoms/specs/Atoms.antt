@@ -16,13 +16,13 @@ use Rattle.read_atoms.specs.declared.Row.{Row}
 
 -- from the kind of `read` on
 abbrev pub atomWords : List String
-atomWords = "read" ∷ "acc" ∷ "eq" ∷ "ne" ∷ []
+atomWords = "read" ∷ "acc" ∷ "chain" ∷ "eq" ∷ "ne" ∷ []
 
 -- the word of a kind; nothing where there is none
 unfoldable pub atomWord : ℕ → Name
 atomWord k = bytes (getD ("" ∷ atomWords) k "")
 
--- "An atom is three fields: `acc x f`, `eq e e` or `ne e e`."; W8: `read x f`
+-- "An atom is three fields: `acc x f`, `eq e e` or `ne e e`."; W8: `read x f`; W9: `chain x f`
 unfoldable pub beginsAtom : Name → Bool
 beginsAtom w = isPermit w || isRel w
 

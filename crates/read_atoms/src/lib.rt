@@ -12,6 +12,8 @@ impl Packed {
 
     const ACC: u64 = 0x616363;
 
+    const CHAIN: u64 = 0x636861696e;
+
     const EQ: u64 = 0x6571;
 
     const NE: u64 = 0x6e65;
@@ -24,6 +26,8 @@ impl Bytes {
     const READ: usize = 4;
 
     const ACC: usize = 3;
+
+    const CHAIN: usize = 5;
 
     const EQ: usize = 2;
 
@@ -62,6 +66,7 @@ pub fn row_of(kind: usize) -> Row
     match kind {
         AtomKind::READ => columns(Packed::READ, Bytes::READ, PATH, false),
         AtomKind::ACC => columns(Packed::ACC, Bytes::ACC, PATH, false),
+        AtomKind::CHAIN => columns(Packed::CHAIN, Bytes::CHAIN, PATH, false),
         AtomKind::EQ => columns(Packed::EQ, Bytes::EQ, SIDES, true),
         AtomKind::NE => columns(Packed::NE, Bytes::NE, SIDES, true),
         _ => columns(0, 0, 0, false),
@@ -75,6 +80,7 @@ pub fn begun_by(letter: u8) -> usize
     match letter {
         b'r' => AtomKind::READ,
         b'a' => AtomKind::ACC,
+        b'c' => AtomKind::CHAIN,
         b'e' => AtomKind::EQ,
         b'n' => AtomKind::NE,
         _ => 0,

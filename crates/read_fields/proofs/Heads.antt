@@ -45,7 +45,7 @@ within b = not (inSet LineEnd b || inSet FieldEnd b)
 
 word-within : (s : Name) → beginsAtom s ≡ true → all within s ≡ true
 unfolding Text.opened Base.opened
-word-within = of-atom-word (λ s. all within s ≡ true) refl refl refl refl
+word-within = of-atom-word (λ s. all within s ≡ true) refl refl refl refl refl
 
 within-clean : (s : Name) → all within s ≡ true → all inLine s ≡ true
 unfolding all

@@ -113,7 +113,9 @@ fn row_number(kind: u8) -> u32
         Kind::ADD => 0x6650_0778,
         Kind::SUB => 0x6650_0778,
         Kind::LOOP => 0x6653_0000,
-        _ => 0x6750_0000, // again
+        Kind::AGAIN => 0x6750_0000,
+        Kind::OPEN => 0x6650_0978,
+        _ => 0x6650_0097, // shut
     }
 }
 

@@ -1,6 +1,6 @@
 -- Laws of the tests of a line: fields one by one, atoms one by one, and the whole.
 use mathlib.Core.Path.{_≡_, refl, sym, ap, _∙_}
-use mathlib.Core.Bool.{Bool, true, false, _&&_}
+use mathlib.Core.Bool.{Bool, true, false, _&&_, _||_}
 use mathlib.Core.List.{List, [], _∷_, _++_}
 use Prim.Native.Nat.{ℕ, zero, suc, pred, _+_, _-_, _/_, _%_, _≤_, _<_}
 use native.Mathlib.Omega.{arith}
@@ -10,17 +10,17 @@ use borrow.Author.Tests.{ne-eqb, lt-ltb, le-ltb}
 use lib.ListN.{length, drop, getD}
 use Rattle.rules.specs.Base.{Name, all}
 use Rattle.rules.specs.Limits.{most-atoms}
-use Rattle.rules.specs.Syntax.{Atom, Formula, own, cmp}
+use Rattle.rules.specs.Syntax.{Atom, Formula, isPath, own, cmp}
 use Rattle.rules.specs.Text.{isName, isExpr, exprOf, relOf, isPermit, permitOf, isAtom, isFormula, isCondition, isRel, atomOf, formulaOf}
 use Rattle.rules.specs.Grammar.{Operand, Tail, Line, form, isOperand, isTail, isFormed}
 use Rattle.rules.specs.Grammar.{new, typeName, className, variable, member, expression, nothing, condition, formula, both}
 use Rattle.rules.specs.Grammar.{classes, fields, methods, variables, read, assigned, field, method}
 use Rattle.rules.specs.Scope.{Slot, slotsFrom, atomOperands, atomSlots, atomsOf, slots}
 use Rattle.rules.specs.Names as Rules
-use Rattle.tables.specs.Numbers.{eq-atom}
+use Rattle.tables.specs.Numbers.{chain-atom, eq-atom}
 use Rattle.tables.specs.Decode.{isPermission}
 use Rattle.read_atoms.specs.Atoms.{begunBy}
-use Rattle.read_atoms.proofs.Atoms.{atom-begins, permit-told}
+use Rattle.read_atoms.proofs.Atoms.{atom-begins, permit-told, path-told}
 use Rattle.read_bytes.proofs.Search.{true-false, both-true, and-false}
 use Rattle.read_fields.specs.Cuts.{part, more, NextField}
 use Rattle.read_grammar.specs.Rows.{kindNumbered, operandNumber, operandsNumber}
@@ -33,7 +33,7 @@ use Rattle.read_scopes.specs.declared.Names.{Names}
 use Rattle.read_scopes.specs.declared.Above.{Above}
 use Rattle.read_scopes.specs.Meanings.{declarationsIn, variablesIn, scopeIn}
 use Rattle.read_refusals.specs.declared.Tests.{Tests}
-use Rattle.read_refusals.specs.Tests.{lineAfter, formed, bothTests, allPassed, slotTests, cmpTests, tested, lineTests, sidesIn, apartIn}
+use Rattle.read_refusals.specs.Tests.{lineAfter, formed, bothTests, allPassed, slotTests, permitTests, chainTests, cmpTests, tested, lineTests, sidesIn, apartIn}
 
 -- BOTH
 and-assoc : (x y z : Bool) → ((x && y) && z) ≡ (x && (y && z))
@@ -158,6 +158,15 @@ module _ (p x y : Name) (h : isAtom p x y ≡ true) (k : ℕ) (e : k ≡ begunBy
   pub not-permit : eq-atom ≤ k → isPermit p ≡ false
   not-permit l = permit-is ∙ le-ltb k eq-atom l
 
+  path-is : isPath (permitOf p) ≡ ltb k chain-atom
+  path-is = path-told p (atom-begins p x y h) ∙ rw e
+
+  pub is-path : k < chain-atom → isPath (permitOf p) ≡ true
+  is-path l = path-is ∙ lt-ltb k chain-atom l
+
+  pub not-path : chain-atom ≤ k → isPath (permitOf p) ≡ false
+  not-path l = path-is ∙ le-ltb k chain-atom l
+
   pub permit-names : k < eq-atom → (isName x ≡ true) × (isName y ≡ true)
   unfolding isAtom
   permit-names l = both-true _ _ (rw (is-permit l) at h)
@@ -201,16 +210,29 @@ module _ (t w : List ℕ) (c : Names) (a : Above) where
       (all-append isAssignable xs ys)
 
   -- ONE ATOM
-  pub permit-atom :
+  own-atom :
       (p x y : Name) → isPermit p ≡ true →
       tested t w c a (slotsFrom [] (atomOperands p) (x ∷ y ∷ [])) (atomOf p x y ∷ [])
-      ≡ bothTests (slotTests t w c a (variable read) [] x) (slotTests t w c a (member field) x y)
+      ≡ bothTests (permitTests t w c a x y)
+      (record { known = true; typed = isPath (permitOf p) || Rules.chains (declarationsIn t w c) (variablesIn t w c) x y; assignable = true })
   unfolding slotsFrom atomOperands atomOf tested all Rules.atomAgrees
-  permit-atom p x y e =
+  own-atom p x y e =
       rw e
       (tested-slot (variable read) [] x (record { operand = member field; before = x; name = y } ∷ []) (own (permitOf p) x y ∷ [])
-      ∙ ap (bothTests (slotTests t w c a (variable read) [] x))
-      (tested-slot (member field) x y [] (own (permitOf p) x y ∷ []) ∙ both-passed (slotTests t w c a (member field) x y)))
+      ∙ (ap (bothTests (slotTests t w c a (variable read) [] x))
+      (tested-slot (member field) x y [] (own (permitOf p) x y ∷ [])
+      ∙ ap (bothTests (slotTests t w c a (member field) x y)) (same-tests refl (and-true _) refl))
+      ∙ sym (both-assoc (slotTests t w c a (variable read) [] x) (slotTests t w c a (member field) x y) _)))
+
+  pub permit-atom :
+      (p x y : Name) → isPermit p ≡ true → isPath (permitOf p) ≡ true →
+      tested t w c a (slotsFrom [] (atomOperands p) (x ∷ y ∷ [])) (atomOf p x y ∷ []) ≡ permitTests t w c a x y
+  permit-atom p x y e i = own-atom p x y e ∙ rw i (both-passed (permitTests t w c a x y))
+
+  pub chain-atom-is :
+      (p x y : Name) → isPermit p ≡ true → isPath (permitOf p) ≡ false →
+      tested t w c a (slotsFrom [] (atomOperands p) (x ∷ y ∷ [])) (atomOf p x y ∷ []) ≡ chainTests t w c a x y
+  chain-atom-is p x y e i = own-atom p x y e ∙ rw i
 
   pub cmp-atom :
       (p x y : Name) → isPermit p ≡ false →

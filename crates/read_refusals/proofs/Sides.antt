@@ -1,6 +1,6 @@
--- Laws of the sides of a line, and of the variables of a `call`, by the number of the line's kind.
+-- Laws of the tests of a line's sides and variables, by the number of the line's kind.
 use mathlib.Core.Path.{_≡_, refl, sym, _∙_}
-use mathlib.Core.Bool.{Bool, true, false, not, _&&_, _||_}
+use mathlib.Core.Bool.{Bool, true, false, _&&_, _||_}
 use mathlib.Core.List.{List, [], _∷_}
 use Prim.Native.Nat.{ℕ}
 use lib.Dec.{T, eqb}
@@ -8,18 +8,15 @@ use lib.ListN.{drop, getD}
 use borrow.Author.Tests.{ne-eqb}
 use Rattle.rules.specs.Base.{Name, all, any}
 use Rattle.rules.specs.Text.{isName, isExpr}
-use Rattle.rules.specs.Grammar.{Kind, kinds, statement, Let, Call, form, stands, shape, shaped, isFormed, isOperand, isTail, nothing}
-use Rattle.rules.specs.Grammar.{IsKindNumber, isStatement, isKind, kindNumber, statementNumber}
-use Rattle.rules.specs.Scope.{operand}
-use Rattle.rules.specs.Names as Rules
+use Rattle.rules.specs.Grammar.{Kind, Line, kinds, statement, Let, form, stands, shape, shaped, isFormed, isOperand, isTail, nothing}
+use Rattle.rules.specs.Grammar.{IsKindNumber, kindNumber, statementNumber}
 use Rattle.rules.proofs.LineKinds.{every-kind}
 use Rattle.read_bytes.proofs.Search.{true-false, both-true, and-false}
 use Rattle.read_fields.specs.Cuts.{more}
 use Rattle.read_grammar.specs.Rows.{kindNumbered}
-use Rattle.read_grammar.proofs.Rows.{NoneOf, number-of-kind, kind-numbered, kind-of-number}
+use Rattle.read_grammar.proofs.Rows.{NoneOf, number-of-kind, kind-of-number}
 use Rattle.read_scopes.specs.declared.Names.{Names}
-use Rattle.read_scopes.specs.Meanings.{variablesIn}
-use Rattle.read_refusals.specs.Tests.{lineAfter, formed, sidesIn, apartIn}
+use Rattle.read_refusals.specs.Tests.{lineAfter, formed}
 
 let-form :
     (ws : List Name) → isFormed (form (statement Let) .operands) (form (statement Let) .tail) ws ≡ true → isExpr (getD ws 1 []) ≡ true
@@ -33,24 +30,20 @@ pub let-side : (t : List ℕ) (r k : ℕ) → k ≡ 9 → formed (lineAfter t r 
 unfolding formed lineAfter kindNumber statementNumber
 let-side t r k e f = let-form (more (drop r t)) (rw (e, kind-of-number (statement Let)) at f)
 
-module _ (t w : List ℕ) (c : Names) (r k : ℕ) where
-  -- the kind instead of its number
-  pub sides-of : (K : Kind) → kindNumber K ≡ k → sidesIn t w c (lineAfter t r k) ≡ sidesIn t w c (record { kind = K; fields = more (drop r t) })
+module _ (test : List ℕ → List ℕ → Names → Line → Bool) (t w : List ℕ) (c : Names) (r k : ℕ) where
+  -- with the kind instead of its number
+  pub by-kind : (K : Kind) → kindNumber K ≡ k → test t w c (lineAfter t r k) ≡ test t w c (record { kind = K; fields = more (drop r t) })
   unfolding lineAfter
-  sides-of K e = rw (← e, kind-of-number K)
+  by-kind K e = rw (← e, kind-of-number K)
 
-  -- k is the number of a kind, and not that of a
-  other : IsKindNumber k → (a : Kind) → (k ≡ kindNumber a → ⊥) → isKind a (kindNumbered k) ≡ false
-  other h a n = kind-numbered k h a ∙ ne-eqb (kindNumber a) k (λ e. n (sym e))
-
-  -- ns: the numbers that the other arms of a `match` are for; each kind is of one of them, or has no sides
-  pub sides-other :
-      (ns : List ℕ) → T (all (λ K. any (eqb (kindNumber K)) ns || sidesIn t w c (record { kind = K; fields = more (drop r t) })) kinds) →
-      IsKindNumber k → NoneOf k ns → true ≡ sidesIn t w c (lineAfter t r k)
+  -- ns: the numbers that the other arms of a `match` are for; each kind is of one of them, or passes the test
+  pub by-other :
+      (ns : List ℕ) → T (all (λ K. any (eqb (kindNumber K)) ns || test t w c (record { kind = K; fields = more (drop r t) })) kinds) →
+      IsKindNumber k → NoneOf k ns → true ≡ test t w c (lineAfter t r k)
   unfolding lineAfter any
-  sides-other ns a h n =
-      go (sidesIn t w c (lineAfter t r k))
-      (rw (number-of-kind k h, none-any ns n) at (every-kind (λ K. any (eqb (kindNumber K)) ns || sidesIn t w c (record { kind = K; fields = more (drop r t) })) a (kindNumbered k)))
+  by-other ns a h n =
+      go (test t w c (lineAfter t r k))
+      (rw (number-of-kind k h, none-any ns n) at (every-kind (λ K. any (eqb (kindNumber K)) ns || test t w c (record { kind = K; fields = more (drop r t) })) a (kindNumbered k)))
     where
       none-any : (ns : List ℕ) → NoneOf k ns → any (eqb k) ns ≡ false
       none-any [] n = refl
@@ -59,15 +52,3 @@ module _ (t w : List ℕ) (c : Names) (r k : ℕ) where
       go : (b : Bool) → T b → true ≡ b
       go true z = refl
       go false z = absurd z
-
-  pub apart-other : IsKindNumber k → (k ≡ 11 → ⊥) → true ≡ apartIn t w c (lineAfter t r k)
-  unfolding apartIn Rules.callApart lineAfter kindNumber statementNumber
-  apart-other h n = rw (other h (statement Call) n)
-
-  pub apart-call :
-      k ≡ 11 →
-      apartIn t w c (lineAfter t r k)
-      ≡ (not (eqb (Rules.variableNumber (variablesIn t w c) (getD (more (drop r t)) 0 [])) (Rules.variableNumber (variablesIn t w c) (getD (more (drop r t)) 1 [])))
-      && not (eqb (Rules.variableNumber (variablesIn t w c) (getD (more (drop r t)) 0 [])) (Rules.variableNumber (variablesIn t w c) (getD (more (drop r t)) 3 []))))
-  unfolding apartIn Rules.callApart lineAfter isKind isStatement kindNumber statementNumber operand
-  apart-call e = rw (e, kind-of-number (statement Call))

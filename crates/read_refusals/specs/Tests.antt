@@ -2,7 +2,7 @@
 use mathlib.Core.Path.{_≡_}
 use mathlib.Core.Bool.{Bool, true, _&&_}
 use mathlib.Core.List.{List, [], _∷_}
-use Prim.Native.Nat.{ℕ}
+use Prim.Native.Nat.{ℕ, _+_}
 use lib.ListN.{length, drop, getD}
 use Rattle.rules.specs.Base.{Name, all}
 use Rattle.rules.specs.Limits.{work-bytes}
@@ -81,6 +81,16 @@ module _ (t w : List ℕ) (c : Names) (a : Above) where
   abbrev pub permitTests : Name → Name → Tests
   permitTests x f = bothTests (slotTests (variable read) [] x) (slotTests (member field) x f)
 
+  -- of `chain x f`
+  abbrev pub chainTests : Name → Name → Tests
+  chainTests x f =
+      bothTests (permitTests x f)
+      (record {
+        known = true;
+        typed = Rules.chains (declarationsIn t w c) (variablesIn t w c) x f;
+        assignable = true;
+      })
+
   -- of `eq x y` or `ne x y`
   unfoldable pub cmpTests : Name → Name → Tests
   cmpTests x y =
@@ -110,7 +120,7 @@ module _ (t w : List ℕ) (c : Names) (a : Above) where
   unfoldable pub lineTests : Line → Tests
   lineTests l = tested (slots l) (formulaOf (atomsOf l))
 
--- of the sides of a line that is no formula, and of the variables of a `call`
+-- of the sides of a line that is no formula, and of the variables of a `call` or an `open`
 module _ (t w : List ℕ) (c : Names) where
   -- the first three fields name int variables
   abbrev pub intsIn : List Name → Bool
@@ -118,8 +128,12 @@ module _ (t w : List ℕ) (c : Names) where
       Rules.isInt (variablesIn t w c) (getD ws 0 [])
       && (Rules.isInt (variablesIn t w c) (getD ws 1 []) && Rules.isInt (variablesIn t w c) (getD ws 2 []))
 
+  -- the type of the field that is field i + 1 is the class of the variable that is field i
+  abbrev pub chainsIn : List Name → ℕ → Bool
+  chainsIn ws i = Rules.chains (declarationsIn t w c) (variablesIn t w c) (getD ws i []) (getD ws (i + 1) [])
+
   unfoldable pub sidesIn : Line → Bool
   sidesIn l = Rules.sidesAgree (declarationsIn t w c) (variablesIn t w c) l
 
   unfoldable pub apartIn : Line → Bool
-  apartIn l = Rules.callApart (variablesIn t w c) l
+  apartIn l = Rules.callApart (variablesIn t w c) l && Rules.openApart (variablesIn t w c) l

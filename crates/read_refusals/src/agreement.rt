@@ -1,18 +1,18 @@
-// The two sides of a line agree (7), and `call` has a name of its own (9).
+// The two sides of a line agree (7), and the variable of a `call` or an `open` is another one than those that it reads (9).
 use read_scopes::Names;
 use read_types::ExprType;
 use rules::Kind;
 ghost use mathlib.Core.Path.{_≡_};
 ghost use mathlib.Core.Bool.{true};
 ghost use mathlib.Core.List.{[]};
-ghost use Prim.Native.Nat.{_≤_};
+ghost use Prim.Native.Nat.{_+_, _≤_};
 ghost use lib.ListN.{length, drop, getD};
 ghost use Rattle.rules.specs.Limits.{work-bytes};
 ghost use Rattle.rules.specs.Text.{isExpr};
-ghost use Rattle.rules.specs.Grammar.{IsKindNumber, set-kind, let-kind, new-kind, call-kind, return-kind};
+ghost use Rattle.rules.specs.Grammar.{IsKindNumber, set-kind, let-kind, new-kind, call-kind, return-kind, open-kind};
 ghost use Rattle.read_fields.specs.Cuts.{more};
 ghost use Rattle.read_scopes.specs.Meanings.{NamesFit};
-ghost use Rattle.read_refusals.specs.Tests.{lineAfter, Formed, intsIn, sidesIn, apartIn};
+ghost use Rattle.read_refusals.specs.Tests.{lineAfter, Formed, intsIn, chainsIn, sidesIn, apartIn};
 
 // The place of z among the fields of `call x y m z`, from 0 on.
 const ARGUMENT: usize = 3;
@@ -86,6 +86,27 @@ fn all_int(text: &[u8], work: &[u8], from: usize, c: Names) -> bool
     crate::and(read_lookups::is_int(text, x), others)
 }
 
+// `chain` of the variable that is field i, by the next one
+fn chains_at(text: &[u8], work: &[u8], from: usize, c: Names, i: usize) -> bool
+    requires { ⌜ (length (now work) ≡ work-bytes) × NamesFit c × (from ≤ length (now text)) × (i ≤ 1) ⌝ }
+    ensures { λ r. ⌜ r ≡ chainsIn (now (text .entry)) (now (work .entry)) c (more (drop from (now (text .entry)))) i ⌝ }
+{
+    let x = crate::nth_field(text, from, i);
+    let f = crate::nth_field(text, from, i + 1);
+    read_types::chains(text, work, c, x, f)
+}
+
+// `open y x f`
+fn open_agrees(text: &[u8], work: &[u8], from: usize, c: Names) -> bool
+    requires { ⌜ (length (now work) ≡ work-bytes) × NamesFit c × (from ≤ length (now text)) ⌝ }
+    ensures { λ r. ⌜ r ≡ sidesIn (now (text .entry)) (now (work .entry)) c (lineAfter (now (text .entry)) from open-kind) ⌝ }
+{
+    let y = read_lookups::variable_type(text, work, c, crate::nth_field(text, from, 0));
+    let x = read_lookups::variable_type(text, work, c, crate::nth_field(text, from, 1));
+    let chain = chains_at(text, work, from, c, 1);
+    crate::and(read_lookups::same_name(text, y, x), chain)
+}
+
 pub fn sides_agree(text: &[u8], work: &[u8], from: usize, kind: u8, c: Names) -> bool
     requires { ⌜ (length (now work) ≡ work-bytes) × NamesFit c × (from ≤ length (now text)) × Formed kind (lineAfter (now text) from kind) ⌝ }
     ensures { λ r. ⌜ r ≡ sidesIn (now (text .entry)) (now (work .entry)) c (lineAfter (now (text .entry)) from kind) ⌝ }
@@ -98,20 +119,41 @@ pub fn sides_agree(text: &[u8], work: &[u8], from: usize, kind: u8, c: Names) ->
         Kind::RETURN => return_agrees(text, work, from, c),
         Kind::ADD => all_int(text, work, from, c),
         Kind::SUB => all_int(text, work, from, c),
+        Kind::OPEN => open_agrees(text, work, from, c),
+        Kind::SHUT => chains_at(text, work, from, c, 0),
         _ => true,
     }
 }
 
-// 9: "`call x` with x the same name as y or z"
-pub fn call_apart(text: &[u8], work: &[u8], from: usize, kind: u8, c: Names) -> bool
-    requires { ⌜ (length (now work) ≡ work-bytes) × NamesFit c × (from ≤ length (now text)) × IsKindNumber kind ⌝ }
-    ensures { λ r. ⌜ r ≡ apartIn (now (text .entry)) (now (work .entry)) c (lineAfter (now (text .entry)) from kind) ⌝ }
+// "`call x` with x the same name as y or z"
+fn call_apart(text: &[u8], work: &[u8], from: usize, c: Names) -> bool
+    requires { ⌜ (length (now work) ≡ work-bytes) × NamesFit c × (from ≤ length (now text)) ⌝ }
+    ensures { λ r. ⌜ r ≡ apartIn (now (text .entry)) (now (work .entry)) c (lineAfter (now (text .entry)) from call-kind) ⌝ }
 {
-    if kind != Kind::CALL {
-        return true;
-    }
     let x = read_lookups::variable(text, work, c, crate::nth_field(text, from, 0));
     let y = read_lookups::variable(text, work, c, crate::nth_field(text, from, 1));
     let z = read_lookups::variable(text, work, c, crate::nth_field(text, from, ARGUMENT));
     crate::and(x != y, x != z)
+}
+
+// W9: "`open`: y may not be `this`, w, `result` or x."
+fn open_apart(text: &[u8], work: &[u8], from: usize, c: Names) -> bool
+    requires { ⌜ (length (now work) ≡ work-bytes) × NamesFit c × (from ≤ length (now text)) ⌝ }
+    ensures { λ r. ⌜ r ≡ apartIn (now (text .entry)) (now (work .entry)) c (lineAfter (now (text .entry)) from open-kind) ⌝ }
+{
+    let y = read_lookups::variable(text, work, c, crate::nth_field(text, from, 0));
+    let x = read_lookups::variable(text, work, c, crate::nth_field(text, from, 1));
+    y != x
+}
+
+// 9: is the variable that a line assigns another one than those that it reads?
+pub fn are_apart(text: &[u8], work: &[u8], from: usize, kind: u8, c: Names) -> bool
+    requires { ⌜ (length (now work) ≡ work-bytes) × NamesFit c × (from ≤ length (now text)) × IsKindNumber kind ⌝ }
+    ensures { λ r. ⌜ r ≡ apartIn (now (text .entry)) (now (work .entry)) c (lineAfter (now (text .entry)) from kind) ⌝ }
+{
+    match kind {
+        Kind::CALL => call_apart(text, work, from, c),
+        Kind::OPEN => open_apart(text, work, from, c),
+        _ => true,
+    }
 }

@@ -20,7 +20,7 @@ ghost use Rattle.read_fields.specs.Cuts.{more};
 ghost use Rattle.read_grammar.specs.Rows.{last-operand, operandNumber};
 ghost use Rattle.read_scopes.specs.Meanings.{NamesFit};
 ghost use Rattle.read_tests.specs.Tests.{operandMeant};
-ghost use Rattle.read_refusals.specs.Tests.{lineAfter, Formed, CountsFit, bothTests, slotTests, exprTests, exprsAgree, permitTests, cmpTests, tested, atomTests, lineTests};
+ghost use Rattle.read_refusals.specs.Tests.{lineAfter, Formed, CountsFit, bothTests, slotTests, exprTests, exprsAgree, permitTests, chainTests, cmpTests, tested, atomTests, lineTests};
 ghost use Rattle.read_refusals.specs.Refusals.{refusalOf, refusalAfter};
 
 // Which of the tests of numbers 6, 7 and 9 are passed.
@@ -143,6 +143,21 @@ fn permit_tests(text: &[u8], work: &[u8], c: Names, a: Above, x: &[u8], f: &[u8]
     both(first, second)
 }
 
+// `chain x f`
+fn chain_tests(text: &[u8], work: &[u8], c: Names, a: Above, x: &[u8], f: &[u8]) -> Tests
+    requires { ⌜ CountsFit (now work) c a × (isName (now x) ≡ true) × (isName (now f) ≡ true) ⌝ }
+    ensures { λ r. ⌜ r ≡ chainTests (now (text .entry)) (now (work .entry)) c a (now (x .entry)) (now (f .entry)) ⌝ }
+{
+    let path = permit_tests(text, work, c, a, x, f);
+    let typed = read_types::chains(text, work, c, x, f);
+    let chain = Tests {
+        known: true,
+        typed,
+        assignable: true,
+    };
+    both(path, chain)
+}
+
 // The tests of a field that is an expression; a number passes them.
 fn expr_tests(text: &[u8], work: &[u8], c: Names, x: &[u8]) -> Tests
     requires { ⌜ (length (now work) ≡ work-bytes) × NamesFit c × (isExpr (now x) ≡ true) ⌝ }
@@ -184,8 +199,12 @@ fn one_atom(text: &[u8], work: &[u8], c: Names, a: Above, w: &[u8], x: &[u8], y:
     requires { ⌜ CountsFit (now work) c a × (isAtom (now w) (now x) (now y) ≡ true) ⌝ }
     ensures { λ r. ⌜ r ≡ atomTests (now (text .entry)) (now (work .entry)) c a (now (w .entry)) (now (x .entry)) (now (y .entry)) ⌝ }
 {
-    if read_atoms::begun_by(read_bytes::byte_at(w, 0)) < AtomKind::EQ {
+    let kind = read_atoms::begun_by(read_bytes::byte_at(w, 0));
+    if kind < AtomKind::CHAIN {
         return permit_tests(text, work, c, a, x, y);
+    }
+    if kind == AtomKind::CHAIN {
+        return chain_tests(text, work, c, a, x, y);
     }
     cmp_tests(text, work, c, a, x, y)
 }
@@ -260,7 +279,7 @@ pub fn judge(text: &[u8], work: &[u8], from: usize, kind: u8, c: Names, a: Above
     if !and(t.typed, sides) {
         return Judged::WrongType;
     }
-    let apart = agreement::call_apart(text, work, from, kind, c);
+    let apart = agreement::are_apart(text, work, from, kind, c);
     if !and(t.assignable, apart) {
         return Judged::WrongTarget;
     }

@@ -9,15 +9,16 @@ use lib.ListN.{getD}
 use Rattle.rules.specs.Base.{Name, bytes, is, eqName, index}
 use Rattle.rules.specs.Text.{reserved}
 use Rattle.rules.specs.Syntax.{path}
-use Rattle.rules.specs.Scope.{Variable}
-use Rattle.rules.specs.Names.{agree, noField, isFieldOf, fieldType, variableType, isInt, knownField, knownExpr, ofClassIn}
+use Rattle.rules.specs.Scope.{Declarations, Variable}
+use Rattle.rules.specs.Names.{agree, noField, isFieldOf, fieldType, variableType, isInt, knownField, knownExpr, ofClassIn, chains}
 use Rattle.read_names.specs.declared.Span.{Span}
 use Rattle.read_scopes.specs.declared.Names.{Names}
 use Rattle.read_names.specs.Rows.{nameIn}
 use Rattle.read_scopes.specs.Meanings.{declarationsIn}
 use Rattle.read_types.specs.declared.ExprType.{ExprType}
+use Rattle.read_types.specs.declared.Member.{Member}
 use Rattle.read_lookups.specs.LookUps.{typeOf, Looked}
-use Rattle.read_types.specs.Types.{typeMeant, isIntType, good, mayName}
+use Rattle.read_types.specs.Types.{typeMeant, isIntType, good, mayName, MemberIs, ofOwnClass}
 use Rattle.read_lookups.proofs.LookUps.{type-by, field-any, looked-type}
 
 -- A PATH: what its look-ups say of it
@@ -47,6 +48,12 @@ path-good t w c vs x f v s i h p e =
     go true true true false = refl
     go true true false true = refl
     go true true false false = refl
+
+pub chains-is :
+    {t w : List ℕ} {Γ : Declarations} {vs : List Variable} {x f : Name} {b : Bool} {m : Member} → MemberIs t w Γ vs x f b m →
+    ofOwnClass t w m ≡ chains Γ vs x f
+unfolding chains
+chains-is M = rw (M .is, M .variable .type)
 
 -- TYPES
 pub null-agrees : (t : List ℕ) (b : ExprType) → not (isIntType t b) ≡ agree none (typeMeant t b)

@@ -5,13 +5,13 @@ use mathlib.Core.List.{List}
 use mathlib.Core.Option.{none, some}
 use Prim.Native.Nat.{ℕ}
 use lib.Dec.{ltb}
-use Rattle.rules.specs.Base.{Name, bytes, is}
+use Rattle.rules.specs.Base.{Name, bytes, is, eqName}
 use Rattle.rules.specs.Syntax.{Expr, path}
 use Rattle.rules.specs.Text.{reserved}
 use Rattle.rules.specs.Grammar.{variable, fields}
 use Rattle.rules.specs.Scope.{Declarations, Variable}
 use Rattle.rules.specs.Names as Rules
-use Rattle.rules.specs.Names.{variableNumber, variableType, fieldType, fieldNumber, knownExpr, ofClassIn, exprType}
+use Rattle.rules.specs.Names.{variableType, fieldType, fieldNumber, knownExpr, ofClassIn, exprType, chains}
 use Rattle.rules.specs.Items.{resolveExpr}
 use Rattle.tables.specs.Stores.{meaning}
 use Rattle.read_names.specs.declared.Span.{Span}
@@ -21,7 +21,7 @@ use Rattle.read_types.specs.declared.Member.{Member}
 use Rattle.read_types.specs.declared.Lookup.{Lookup}
 use Rattle.read_names.specs.Rows.{nameIn}
 use Rattle.read_scopes.specs.Meanings.{declarationsIn, variablesIn}
-use Rattle.read_lookups.specs.LookUps.{no-variable}
+use Rattle.read_lookups.specs.LookUps.{no-variable, typeOf, Looked}
 
 -- the type that an answer is
 unfoldable pub typeMeant : List ℕ → ExprType → Rules.ExprType
@@ -41,16 +41,24 @@ isIntType t (ExprType.Named s) = is "int" (nameIn t s)
 unfoldable pub good : Declarations → List Variable → Expr Name → Bool
 good Γ vs e = knownExpr Γ vs e && ofClassIn Γ vs e
 
+-- a path whose field has its variable's class as its type
+unfoldable pub chainGood : Declarations → List Variable → Name → Name → Bool
+chainGood Γ vs x f = good Γ vs (path x f) && chains Γ vs x f
+
 -- may a line name f of the variable v, of the class named at s, if i is where the class's field f stands?
 unfoldable pub mayName : List ℕ → Names → ℕ → Span → ℕ → Name → Bool
 mayName t c v s i f = ltb v no-variable && (ltb i (c .fields) && (not (is "int" (nameIn t s)) && not (reserved f)))
 
--- what looking up x.f gives
-pub record MemberIs (t : List ℕ) (Γ : Declarations) (vs : List Variable) (x f : Name) (r : Member) : Type 0 where
-  pub variable : r .variable ≡ variableNumber vs x
+-- what looking up x.f gives, where a line may name it just if b
+pub record MemberIs (t w : List ℕ) (Γ : Declarations) (vs : List Variable) (x f : Name) (b : Bool) (r : Member) : Type 0 where
+  pub variable : Looked t w vs x (r .variable)
   pub number : r .number ≡ fieldNumber Γ f
   pub is : nameIn t (r .is) ≡ fieldType Γ (variableType vs x) f
-  pub good : r .good ≡ good Γ vs (path x f)
+  pub good : r .good ≡ b
+
+-- the type of the field is that of its variable
+abbrev pub ofOwnClass : List ℕ → List ℕ → Member → Bool
+ofOwnClass t w m = eqName (nameIn t (m .is)) (nameIn t (typeOf w (m .variable)))
 
 -- what looking up an expression gives
 pub record LookIs (t : List ℕ) (Γ : Declarations) (vs : List Variable) (e : Expr Name) (r : Lookup) : Type 0 where
@@ -65,7 +73,12 @@ module _ (t w : List ℕ) (c : Names) where
   typeIn e = exprType (declarationsIn t w c) (variablesIn t w c) e
 
   abbrev pub MemberIn : Name → Name → Member → Type 0
-  MemberIn x f r = MemberIs t (declarationsIn t w c) (variablesIn t w c) x f r
+  MemberIn x f r =
+      MemberIs t w (declarationsIn t w c) (variablesIn t w c) x f (good (declarationsIn t w c) (variablesIn t w c) (path x f)) r
+
+  abbrev pub ChainIn : Name → Name → Member → Type 0
+  ChainIn x f r =
+      MemberIs t w (declarationsIn t w c) (variablesIn t w c) x f (chainGood (declarationsIn t w c) (variablesIn t w c) x f) r
 
   abbrev pub LookIn : Expr Name → Lookup → Type 0
   LookIn e r = LookIs t (declarationsIn t w c) (variablesIn t w c) e r

@@ -5,16 +5,17 @@ use tables::Expr;
 ghost use mathlib.Core.Path.{_≡_};
 ghost use mathlib.Core.Bool.{true, false};
 ghost use mathlib.Core.Option.{some};
-ghost use Prim.Native.Nat.{_+_, _<_};
+ghost use Prim.Native.Nat.{_+_, _≤_, _<_};
 ghost use lib.ListN.{length};
 ghost use Rattle.rules.specs.Base.{is};
 ghost use Rattle.rules.specs.Syntax.{var, path};
 ghost use Rattle.rules.specs.Limits.{work-bytes};
 ghost use Rattle.rules.specs.Text.{isExpr, exprOf};
-ghost use Rattle.rules.specs.Names.{agree};
+ghost use Rattle.rules.specs.Names.{agree, chains};
 ghost use Rattle.read_names.specs.Rows.{nameIn};
-ghost use Rattle.read_scopes.specs.Meanings.{NamesFit};
-ghost use Rattle.read_types.specs.Types.{isIntType, typeMeant, mayName, typeIn, MemberIn, LookIn};
+ghost use Rattle.read_scopes.specs.Meanings.{NamesFit, declarationsIn, variablesIn};
+ghost use Rattle.read_lookups.specs.LookUps.{no-variable};
+ghost use Rattle.read_types.specs.Types.{isIntType, typeMeant, mayName, typeIn, ofOwnClass, MemberIn, ChainIn, LookIn};
 
 // The type of an expression: null's, a number's, or that of a declaration, by its name.
 pub enum ExprType {
@@ -135,6 +136,37 @@ pub fn look_path(text: &[u8], work: &[u8], c: Names, x: &[u8], f: &[u8]) -> Memb
         is,
         good,
     }
+}
+
+// W9: "f a field with x's class as its type (else 7)". Is the field that was looked up of its variable's class?
+fn is_chain(text: &[u8], work: &[u8], m: Member) -> bool
+    requires { ⌜ (length (now work) ≡ work-bytes) × (m .variable ≤ no-variable) ⌝ }
+    ensures { λ r. ⌜ r ≡ ofOwnClass (now (text .entry)) (now (work .entry)) m ⌝ }
+{
+    let is = m.is;
+    read_lookups::same_name(text, is, read_lookups::type_of(work, m.variable))
+}
+
+pub fn chains(text: &[u8], work: &[u8], c: Names, x: &[u8], f: &[u8]) -> bool
+    requires { ⌜ (length (now work) ≡ work-bytes) × NamesFit c ⌝ }
+    ensures { λ r. ⌜ r ≡ chains (declarationsIn (now (text .entry)) (now (work .entry)) c) (variablesIn (now (text .entry)) (now (work .entry)) c) (now (x .entry)) (now (f .entry)) ⌝ }
+{
+    let m = look_path(text, work, c, x, f);
+    is_chain(text, work, m)
+}
+
+// As look_path, for `chain x f`: good only if x's field f is of x's class.
+pub fn look_chain(text: &[u8], work: &[u8], c: Names, x: &[u8], f: &[u8]) -> Member
+    requires { ⌜ (length (now work) ≡ work-bytes) × NamesFit c ⌝ }
+    ensures { λ r. ⌜ ChainIn (now (text .entry)) (now (work .entry)) c (now (x .entry)) (now (f .entry)) r ⌝ }
+{
+    let mut m = look_path(text, work, c, x, f);
+    if !m.good {
+        return m;
+    }
+    let good = is_chain(text, work, m);
+    m.good = good;
+    m
 }
 
 fn path_look(text: &[u8], work: &[u8], c: Names, x: &[u8], f: &[u8]) -> Lookup

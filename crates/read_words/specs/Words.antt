@@ -14,7 +14,7 @@ abbrev pub words : List String
 words =
     "class" ∷ "field" ∷ "method" ∷ "requires" ∷ "ensures" ∷ "main" ∷ "var" ∷
     "set" ∷ "let" ∷ "new" ∷ "call" ∷ "return" ∷ "assert" ∷ "release" ∷ "if" ∷ "else" ∷ "join" ∷ "end" ∷ "add" ∷ "sub" ∷ "loop" ∷ "again" ∷
-    "int" ∷ "null" ∷ "this" ∷ "result" ∷ []
+    "open" ∷ "shut" ∷ "int" ∷ "null" ∷ "this" ∷ "result" ∷ []
 
 -- the numbers of those that begin no line
 abbrev pub int-word : ℕ

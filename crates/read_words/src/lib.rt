@@ -71,6 +71,10 @@ impl Packed {
 
     const AGAIN: u64 = 0x616761696e;
 
+    const OPEN: u64 = 0x6f70656e;
+
+    const SHUT: u64 = 0x73687574;
+
     const INT: u64 = 0x696e74;
 
     const NULL: u64 = 0x6e756c6c;
@@ -121,6 +125,8 @@ fn numbered(k: u64) -> u8
         Packed::SUB => Kind::SUB,
         Packed::LOOP => Kind::LOOP,
         Packed::AGAIN => Kind::AGAIN,
+        Packed::OPEN => Kind::OPEN,
+        Packed::SHUT => Kind::SHUT,
         Packed::INT => INT,
         Packed::NULL => NULL,
         Packed::THIS => THIS,

@@ -7,24 +7,27 @@ use native.Mathlib.Omega.{arith}
 use lib.Dec.{T, leb}
 use lib.ListN.{length, drop}
 use Rattle.rules.specs.Base.{Name, all}
-use Rattle.rules.specs.Syntax.{own, cmp}
+use Rattle.rules.specs.Syntax.{isPath, own, cmp}
 use Rattle.rules.specs.Text.{exprOf, relOf, isPermit, permitOf, atomOf, formulaOf}
 use Rattle.rules.specs.Grammar as Grammar
 use Rattle.rules.specs.Grammar.{Kind, Line, Operand, kinds, form, variable, member, expression, read, field}
 use Rattle.rules.specs.Scope.{Declarations, Variable, Scope, Slot, slotsFrom, atomOperands, atomSlots, atomsOf, slots}
-use Rattle.rules.specs.Names.{agree, exprType, known, ofClass, mayBeAssigned, knownExpr, ofClassIn, knownField, inScope, isInt, sidesAgree, atomAgrees, callApart, allKnown, allTyped, allAssignable}
+use Rattle.rules.specs.Names.{agree, exprType, known, ofClass, mayBeAssigned, knownExpr, ofClassIn, knownField, inScope, isInt, sidesAgree, chains, atomAgrees, callApart, openApart, allKnown, allTyped, allAssignable}
 use Rattle.rules.proofs.LineKinds.{every-kind}
 use Rattle.read_types.specs.Types.{good}
 use Rattle.resolve_atoms.specs.Good.{fitsAtom}
 
 -- TESTS IN ANOTHER ORDER
 access-order :
-    (a b d k t r : Bool) → ((a && (b && k)) && ((d && t) && r)) ≡ (((a && b) && d) && (k && (t && r)))
-access-order false b d k t r = refl
-access-order true false d k t r = refl
-access-order true true true k t r = refl
-access-order true true false true t r = refl
-access-order true true false false t r = refl
+    (a b d p k t r : Bool) → ((a && (b && k)) && ((d && t) && (p && r))) ≡ ((((a && b) && d) && p) && (k && (t && r)))
+access-order false b d p k t r = refl
+access-order true false d p k t r = refl
+access-order true true false p true t r = refl
+access-order true true false p false t r = refl
+access-order true true true true k t r = refl
+access-order true true true false true true r = refl
+access-order true true true false true false r = refl
+access-order true true true false false t r = refl
 
 compared-order :
     (a b d e g k t r : Bool) →
@@ -66,7 +69,7 @@ module _ (Γ : Declarations) (vs : List Variable) (s : Scope) where
       ≡ (fitsAtom Γ vs (cond q (own (permitOf u) a b) (cmp (relOf u) (exprOf a) (exprOf b))) && (all knownSlot xs && (all typedSlot xs && r)))
   unfolding slotsFrom all known ofClass atomAgrees fitsAtom good knownExpr ofClassIn
   atom-fits true u a b xs r =
-      access-order (inScope vs a) (knownField Γ vs a b) (not (isInt vs a)) (all knownSlot xs) (all typedSlot xs) r
+      access-order (inScope vs a) (knownField Γ vs a b) (not (isInt vs a)) (isPath (permitOf u) || chains Γ vs a b) (all knownSlot xs) (all typedSlot xs) r
   atom-fits false u a b xs r =
       compared-order (knownExpr Γ vs (exprOf a)) (knownExpr Γ vs (exprOf b)) (ofClassIn Γ vs (exprOf a)) (ofClassIn Γ vs (exprOf b))
       (agree (exprType Γ vs (exprOf a)) (exprType Γ vs (exprOf b))) (all knownSlot xs) (all typedSlot xs) r
@@ -108,14 +111,14 @@ module _ (Γ : Declarations) (vs : List Variable) (s : Scope) where
       go [] false e h = absurd h
       go (o ∷ os) b e h = let z : _≡_ {A = ℕ} 0 1 = cc in absurd (omega arith)
 
-  -- so it has no sides, and calls nothing
+  -- so it has no sides, calls nothing and opens nothing
   no-sides : (k : Kind) (ws : List Name) → form k .operands ≡ [] → sidesAgree Γ vs (record { kind = k; fields = ws }) ≡ true
   unfolding Grammar.opened all sidesAgree
   no-sides k ws e = without-operands (λ k. sidesAgree Γ vs (record { kind = k; fields = ws })) tt k e
 
-  no-call : (k : Kind) (ws : List Name) → form k .operands ≡ [] → callApart vs (record { kind = k; fields = ws }) ≡ true
-  unfolding Grammar.opened all callApart
-  no-call k ws e = without-operands (λ k. callApart vs (record { kind = k; fields = ws })) tt k e
+  no-call : (k : Kind) (ws : List Name) → form k .operands ≡ [] → let l : Line = record { kind = k; fields = ws } in (callApart vs l && openApart vs l) ≡ true
+  unfolding Grammar.opened all callApart openApart
+  no-call k ws e = without-operands (λ k. let l : Line = record { kind = k; fields = ws } in callApart vs l && openApart vs l) tt k e
 
   -- `requires`, `ensures`, `assert`, `release`, `join`, `if`
   pub formula-good :

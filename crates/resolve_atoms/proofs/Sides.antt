@@ -7,9 +7,9 @@ use Prim.Native.Nat.{ℕ, zero, suc, _+_, _≤_, _<_}
 use native.Mathlib.Omega.{arith}
 use lib.Dec.{T, eqb}
 use lib.ListN.{length}
-use borrow.Author.Tests.{ltb-true, lt-ltb, le-ltb, not-true}
+use borrow.Author.Tests.{ltb-true, lt-ltb, le-ltb, ne-eqb, not-true}
 use Rattle.rules.specs.Base.{Name, any, index, eqName, Member}
-use Rattle.rules.specs.Syntax.{Permit, Expr, num, null, var, path, own, cmp}
+use Rattle.rules.specs.Syntax.{Permit, Expr, isPath, num, null, var, path, acc, read, own, cmp}
 use Rattle.rules.specs.Text.{number, numeral, hasStop, isExpr, exprOf, beforeStop, afterStop, reserved, isAtom, atomOf}
 use Rattle.rules.specs.Base as Base
 use Rattle.rules.specs.Scope.{Declarations, Variable, FieldDeclaration}
@@ -22,14 +22,14 @@ use Rattle.read_bytes.proofs.Search.{both-true}
 use Rattle.read_atoms.specs.Atoms.{atomWord}
 use Rattle.read_atoms.proofs.Atoms.{atom-begins, kind-bounds, permission-of, comparison-of, comparison-form}
 use Rattle.tables.specs.declared.Expr as Tables
-use Rattle.tables.specs.Numbers.{read-atom, eq-atom, ne-atom}
+use Rattle.tables.specs.Numbers.{read-atom, chain-atom, eq-atom, ne-atom}
 use Rattle.tables.specs.Layout.{most-names, frame-variables}
 use Rattle.tables.specs.Decode as Decode
 use Rattle.tables.specs.Stores.{meaning}
 use Rattle.read_scopes.specs.declared.Names as Declared
 use Rattle.read_types.specs.declared.Member as Member
 use Rattle.read_types.specs.declared.Lookup as Lookup
-use Rattle.read_types.specs.Types.{good, typeMeant, MemberIs, LookIs}
+use Rattle.read_types.specs.Types.{good, chainGood, typeMeant, MemberIs, LookIs}
 use Rattle.tables.specs.Decode.{run}
 use Rattle.read_names.specs.Rows.{entryAt, fields-first}
 use Rattle.read_scopes.specs.Meanings.{NamesFit, asField, declarationsIn, blockIn, ownVariables, variablesIn, variableAt, thisIn, resultIn}
@@ -41,7 +41,11 @@ use Rattle.write_rows.specs.Holds as Holds
 use Rattle.write_rows.specs.Holds.{accessOf}
 use Rattle.resolve_atoms.specs.declared.TriedAtom.{TriedAtom}
 use Rattle.resolve_atoms.specs.Good.{fitsAtom}
-use Rattle.resolve_atoms.specs.Written.{IsAccess, IsRelation, Resolved, AtomTried}
+use Rattle.resolve_atoms.specs.Written.{IsRelation, Resolved, AtomTried, permissionRow}
+
+-- the kind of `read`, that of `acc` or that of `chain`
+abbrev pub IsAccess : ℕ → Type 0
+IsAccess k = (read-atom ≤ k) × (k < eq-atom)
 
 -- SIDES
 
@@ -115,7 +119,7 @@ module _ (t w : List ℕ) (c : Declared.Names) (fits : NamesFit c) where
       small-all _ (first-member (λ v. eqName (v .name) x) noVariable (variablesIn t w c) (subst T (sym e) tt))
 
   -- FIELDS
-  pub field-small :
+  field-small :
       (C f : Name) → any (isFieldOf (declarationsIn t w c) C f) (declarationsIn t w c .fields) ≡ true →
       fieldNumber (declarationsIn t w c) f < most-names
   unfolding isFieldOf fieldNumber declarationsIn
@@ -134,7 +138,7 @@ module _ (t w : List ℕ) (c : Declared.Names) (fits : NamesFit c) where
   abbrev vs : List Variable
   vs = variablesIn t w c
 
-  path-fits : (x f : Name) → good Γ vs (path x f) ≡ true → SideFits (resolveExpr Γ vs (path x f))
+  pub path-fits : (x f : Name) → good Γ vs (path x f) ≡ true → SideFits (resolveExpr Γ vs (path x f))
   unfolding good knownExpr ofClassIn knownField SideFits resolveExpr
   path-fits x f g =
       let a = both-true (inScope vs x && knownField Γ vs x f) (not (isInt vs x)) g in
@@ -168,18 +172,20 @@ module _ (t w : List ℕ) (c : Declared.Names) (fits : NamesFit c) where
           ok = record { least = a .0; kind = omega (arith, a .1); left = rw m (path-fits x f g); right = tt; access = λ e. p .0 };
         }
 
-    pub access-row :
-        (m : Member.Member) → MemberIs t Γ vs x f m → m .good ≡ true →
-        AtomTried Γ vs (own (Decode.permitOf k) x f) (TriedAtom.Row (record { kind = k; left = Tables.Expr.Path (m .variable) (m .number); right = Tables.Expr.Null }))
-    unfolding AtomTried fitsAtom resolveExpr meaning
-    access-row m h g =
-        let e : good Γ vs (path x f) ≡ true = sym (h .good) ∙ g in
-        (e, access-is (Tables.Expr.Path (m .variable) (m .number)) e (ap₂ path (h .variable) (h .number)))
-
-    pub access-bad :
-        (m : Member.Member) → MemberIs t Γ vs x f m → m .good ≡ false → AtomTried Γ vs (own (Decode.permitOf k) x f) TriedAtom.Bad
-    unfolding AtomTried fitsAtom
-    access-bad m h g = sym (h .good) ∙ g
+    -- m: what was looked up
+    pub permission-tried :
+        (m : Member.Member) (r : TriedAtom) {b : Bool} → MemberIs t w Γ vs x f b m → b ≡ fitsAtom Γ vs (own (Decode.permitOf k) x f) →
+        r ≡ permissionRow k m → AtomTried Γ vs (own (Decode.permitOf k) x f) r
+    unfolding permissionRow AtomTried fitsAtom resolveExpr meaning
+    permission-tried m r h i e = subst (AtomTried Γ vs (own (Decode.permitOf k) x f)) (sym e) (go (m .good) (sym (h .good ∙ i)))
+      where
+        go :
+            (b : Bool) → fitsAtom Γ vs (own (Decode.permitOf k) x f) ≡ b →
+            AtomTried Γ vs (own (Decode.permitOf k) x f)
+            (cond b (TriedAtom.Row (record { kind = k; left = Tables.Expr.Path (m .variable) (m .number); right = Tables.Expr.Null })) TriedAtom.Bad)
+        go true g =
+            (g, access-is (Tables.Expr.Path (m .variable) (m .number)) (both-true (good Γ vs (path x f)) _ g .0) (ap₂ path (h .variable .number) (h .number)))
+        go false g = g
 
   pub compared-is :
       (k : ℕ) (a b : Name) (l r : Tables.Expr) → IsRelation k →
@@ -244,6 +250,22 @@ module _ (k : ℕ) (a b : Name) (form : isAtom (atomWord k) a b ≡ true) where
 
   pub compared-form : eq-atom ≤ k → (isExpr a ≡ true) × (isExpr b ≡ true)
   compared-form l = comparison-form a b k l (kind-is .1) form
+
+  -- the tests of a permission, by its kind
+  module _ (Γ : Declarations) (vs : List Variable) where
+    pub access-fits : k < chain-atom → good Γ vs (path a b) ≡ fitsAtom Γ vs (own (Decode.permitOf k) a b)
+    unfolding fitsAtom Decode.permitOf isPath
+    access-fits l = rw (ne-eqb k chain-atom (λ e. omega arith)) (go (eqb k 2) (good Γ vs (path a b)))
+      where
+        go : (p q : Bool) → q ≡ (q && (isPath (cond p acc read) || Names.chains Γ vs a b))
+        go true true = refl
+        go true false = refl
+        go false true = refl
+        go false false = refl
+
+    pub chain-fits : k ≡ chain-atom → chainGood Γ vs a b ≡ fitsAtom Γ vs (own (Decode.permitOf k) a b)
+    unfolding fitsAtom chainGood Decode.permitOf isPath
+    chain-fits e = rw e
 
   module _ (Γ : Declarations) (vs : List Variable) (r : TriedAtom) where
     pub access-tried : k < eq-atom → AtomTried Γ vs (own (Decode.permitOf k) a b) r → AtomTried Γ vs (atomOf (atomWord k) a b) r

@@ -1,6 +1,6 @@
 -- An atom and a formula of a line, resolved and written.
 use mathlib.Core.Path.{_≡_}
-use mathlib.Core.Bool.{Bool, true, false}
+use mathlib.Core.Bool.{Bool, true, false, cond}
 use mathlib.Core.List.{List, [], _∷_, _++_, map}
 use Prim.Native.Nat.{ℕ, suc, _+_, _≤_, _<_}
 use lib.ListN.{length, getD, drop}
@@ -11,11 +11,13 @@ use Rattle.rules.specs.Text.{tab, isFormula, formulaOf}
 use Rattle.rules.specs.Scope.{Declarations, Variable}
 use Rattle.rules.specs.Items.{resolveAtom}
 use Rattle.read_fields.specs.Cuts.{more}
-use Rattle.tables.specs.Numbers.{read-atom, eq-atom, ne-atom}
+use Rattle.tables.specs.declared.Expr.{Expr}
+use Rattle.tables.specs.Numbers.{eq-atom, ne-atom}
 use Rattle.tables.specs.Layout.{names-at, most-atom-rows}
 use Rattle.tables.specs.Stores.{Kept}
 use Rattle.read_scopes.specs.declared.Names.{Names}
 use Rattle.read_scopes.specs.Meanings.{declarationsIn, variablesIn}
+use Rattle.read_types.specs.declared.Member.{Member}
 use Rattle.rules.specs.Syntax.{Program}
 use Rattle.tables.specs.Tables.{Declared}
 use Rattle.write_rows.specs.Holds.{AtomOk, atomOf, Holds, Building}
@@ -23,10 +25,6 @@ use Rattle.resolve_atoms.specs.declared.AtomRow.{AtomRow}
 use Rattle.resolve_atoms.specs.declared.TriedAtom.{TriedAtom}
 use Rattle.resolve_atoms.specs.declared.Put.{Put}
 use Rattle.resolve_atoms.specs.Good.{fitsAtom}
-
--- the kind of `read` or that of `acc`
-abbrev pub IsAccess : ℕ → Type 0
-IsAccess k = (read-atom ≤ k) × (k < eq-atom)
 
 -- the kind of `eq` or that of `ne`
 abbrev pub IsRelation : ℕ → Type 0
@@ -41,6 +39,11 @@ pub record Resolved (Γ : Declarations) (vs : List Variable) (x : Atom Name) (r 
 unfoldable pub AtomTried : Declarations → List Variable → Atom Name → TriedAtom → Type 0
 AtomTried Γ vs x (TriedAtom.Row r) = (fitsAtom Γ vs x ≡ true) × Resolved Γ vs x r
 AtomTried Γ vs x TriedAtom.Bad = fitsAtom Γ vs x ≡ false
+
+-- the permission of the kind k to what was looked up, if that is good
+unfoldable pub permissionRow : ℕ → Member → TriedAtom
+permissionRow k m =
+    cond (m .good) (TriedAtom.Row (record { kind = k; left = Expr.Path (m .variable) (m .number); right = Expr.Null })) TriedAtom.Bad
 
 -- by the rows of names in w
 abbrev pub AtomTriedIn : List ℕ → List ℕ → Names → Atom Name → TriedAtom → Type 0

@@ -1,17 +1,18 @@
 // The atoms of a line looked up, tested and written.
 use read_scopes::Names;
+use read_types::Member;
 use tables::AtomKind;
 use tables::Expr;
 ghost use mathlib.Core.Path.{_≡_};
 ghost use mathlib.Core.Bool.{true};
 ghost use Prim.Native.Nat.{_<_};
-ghost use Rattle.rules.specs.Syntax.{own, cmp};
+ghost use Rattle.rules.specs.Syntax.{cmp};
 ghost use Rattle.rules.specs.Text.{isExpr, exprOf, isAtom, atomOf};
 ghost use Rattle.read_atoms.specs.Atoms.{atomWord};
 ghost use Rattle.tables.specs.Layout.{most-atom-rows, most-line-atoms};
-ghost use Rattle.tables.specs.Decode.{permitOf, relOf};
+ghost use Rattle.tables.specs.Decode.{relOf};
 ghost use Rattle.read_scopes.specs.Meanings.{AreaFits};
-ghost use Rattle.resolve_atoms.specs.Written.{IsAccess, IsRelation, AtomTriedIn, AtomFollows, NextTried, FormulaFollows, FormulaTried};
+ghost use Rattle.resolve_atoms.specs.Written.{IsRelation, permissionRow, AtomTriedIn, AtomFollows, NextTried, FormulaFollows, FormulaTried};
 
 // An atom as a row has it: its kind (`AtomKind`) and its sides.
 pub struct AtomRow {
@@ -34,12 +35,10 @@ pub enum Put {
 
 // ONE ATOM
 
-// `acc x f` or `read x f`, by its kind
-fn access(text: &[u8], work: &[u8], c: Names, kind: usize, x: &[u8], f: &[u8]) -> TriedAtom
-    requires { ⌜ AreaFits (now work) c × IsAccess kind ⌝ }
-    ensures { λ r. ⌜ AtomTriedIn (now (text .entry)) (now (work .entry)) c (own (permitOf kind) (now (x .entry)) (now (f .entry))) r ⌝ }
+// `acc x f`, `read x f` or `chain x f`, by its kind, of what was looked up
+fn permission(kind: usize, m: Member) -> TriedAtom
+    ensures { λ r. ⌜ r ≡ permissionRow kind m ⌝ }
 {
-    let m = read_types::look_path(text, work, c, x, f);
     if !m.good {
         return TriedAtom::Bad;
     }
@@ -85,8 +84,11 @@ pub fn resolve_atom(
     requires { ⌜ AreaFits (now work) c × (isAtom (atomWord kind) (now a) (now b) ≡ true) ⌝ }
     ensures { λ r. ⌜ AtomTriedIn (now (text .entry)) (now (work .entry)) c (atomOf (atomWord kind) (now (a .entry)) (now (b .entry))) r ⌝ }
 {
-    if kind < AtomKind::EQ {
-        return access(text, work, c, kind, a, b);
+    if kind < AtomKind::CHAIN {
+        return permission(kind, read_types::look_path(text, work, c, a, b));
+    }
+    if kind == AtomKind::CHAIN {
+        return permission(kind, read_types::look_chain(text, work, c, a, b));
     }
     compared(text, work, c, kind, a, b)
 }

@@ -6,20 +6,32 @@ use Prim.Native.Nat.{ℕ, zero, suc, _+_, _-_, _≤_, _<_}
 use native.Mathlib.Omega.{arith}
 use native.Mathlib.Nat.{add-zero, zero-add}
 use native.Mathlib.Numerals.{add-one}
-use borrow.Author.Tests.{ne-eqb}
+use lib.Dec.{ltb}
+use borrow.Author.Tests.{ne-eqb, le-ltb}
 use Rattle.rules.specs.Base.{any}
-use Rattle.rules.specs.Syntax.{Atom, Formula, own, cmp, path}
+use Rattle.rules.specs.Syntax.{Atom, Formula, isPath, own, cmp, path}
 use Rattle.rules.specs.Reading.{Access, framedExpr, framed}
-use Rattle.tables.specs.Decode.{run, byteAt, atomPlace, permitOf, relOf, leftAt, rightAt, atomAt, atomsFrom, framedFrom}
+use Rattle.tables.specs.Numbers.{chain-atom, eq-atom}
+use Rattle.tables.specs.Decode.{run, byteAt, atomPlace, atomKindAt, isPermission, permitOf, relOf, leftAt, rightAt, atomAt, atomsFrom, framedFrom}
 use Rattle.resolve_framing.specs.Framing.{accessAt, isAccess, isOf, accesses}
+
+-- the kinds of `read` and `acc`
+pub is-access : (k : ℕ) → ltb k chain-atom ≡ isPermission k && isPath (permitOf k)
+unfolding isPermission permitOf isPath
+is-access zero = refl
+is-access (suc zero) = refl
+is-access (suc (suc zero)) = refl
+is-access (suc (suc (suc zero))) = refl
+is-access (suc (suc (suc (suc k)))) =
+    let n : ℕ = suc (suc (suc (suc k))) in rw (le-ltb n chain-atom (omega arith), le-ltb n eq-atom (omega arith))
 
 -- an atom by its sides
 module _ (w : List ℕ) (before : List Access) (i : ℕ) where
-  pub access-framed : isAccess w i ≡ true → framed before (atomAt w i ∷ []) ≡ true
+  pub permission-framed : isPermission (atomKindAt w i) ≡ true → framed before (atomAt w i ∷ []) ≡ true
   unfolding framed atomAt
-  access-framed e = rw e
+  permission-framed e = rw e
 
-  pub sides-framed : isAccess w i ≡ false → framed before (atomAt w i ∷ []) ≡ framedExpr before (leftAt w i) && framedExpr before (rightAt w i)
+  pub sides-framed : isPermission (atomKindAt w i) ≡ false → framed before (atomAt w i ∷ []) ≡ framedExpr before (leftAt w i) && framedExpr before (rightAt w i)
   unfolding framed atomAt
   sides-framed e = rw e (and-true (framedExpr before (leftAt w i)) (framedExpr before (rightAt w i)))
     where
@@ -65,7 +77,7 @@ module _ (w : List ℕ) (a : ℕ) where
       framed (accesses w a i) (atomAt w (a + i) ∷ φ)
       ≡ framed (accesses w a i) (atomAt w (a + i) ∷ []) && framed (accesses w a (suc i)) φ
   unfolding framed accesses atomAt
-  framed-step i φ = go (isAccess w (a + i))
+  framed-step i φ = go (isPermission (atomKindAt w (a + i)))
     where
       and-on : (p q r : Bool) → p && (q && r) ≡ (p && (q && true)) && r
       and-on true true r = refl
@@ -76,7 +88,8 @@ module _ (w : List ℕ) (a : ℕ) where
           (b : Bool) → let n = relOf (byteAt w (atomPlace (a + i))) in
           let t = cond b (own (permitOf (byteAt w (atomPlace (a + i)))) (byteAt w (atomPlace (a + i) + 4)) (byteAt w (atomPlace (a + i) + 5))) (cmp n (leftAt w (a + i)) (rightAt w (a + i))) in
           framed (accesses w a i) (t ∷ φ)
-          ≡ framed (accesses w a i) (t ∷ []) && framed (cond b (accessAt w (a + i) ∷ accesses w a i) (accesses w a i)) φ
+          ≡ framed (accesses w a i) (t ∷ [])
+          && framed (cond (b && isPath (permitOf (atomKindAt w (a + i)))) (accessAt w (a + i) ∷ accesses w a i) (accesses w a i)) φ
       go true = refl
       go false = and-on (framedExpr (accesses w a i) (leftAt w (a + i))) (framedExpr (accesses w a i) (rightAt w (a + i))) _
 

@@ -3,15 +3,17 @@ use mathlib.Core.Bool.{Bool, cond, _&&_}
 use mathlib.Core.List.{List, [], _∷_}
 use Prim.Native.Nat.{ℕ, zero, suc, _+_}
 use lib.Dec.{eqb}
+use Rattle.rules.specs.Syntax.{isPath}
 use Rattle.rules.specs.Reading.{Access, framedExpr}
-use Rattle.tables.specs.Decode.{atomKindAt, isPermission, accVariableAt, accFieldAt, leftAt, rightAt}
+use Rattle.tables.specs.Decode.{atomKindAt, isPermission, permitOf, accVariableAt, accFieldAt, leftAt, rightAt}
 
 -- the variable and the field of the atom i, an `acc` or a `read`
 abbrev pub accessAt : List ℕ → ℕ → Access
 accessAt w i = record { variable = accVariableAt w i; field = accFieldAt w i }
 
+-- a chain is none
 abbrev pub isAccess : List ℕ → ℕ → Bool
-isAccess w i = isPermission (atomKindAt w i)
+isAccess w i = isPermission (atomKindAt w i) && isPath (permitOf (atomKindAt w i))
 
 -- is it `x.f`?
 abbrev pub isOf : ℕ → ℕ → Access → Bool

@@ -16,12 +16,12 @@ ghost use Rattle.tables.specs.Decode.{atomAt, atomsFrom, framedFrom};
 ghost use Rattle.tables.specs.Stores.{meaning};
 ghost use Rattle.resolve_framing.specs.Framing.{accessAt, isAccess, isOf, accesses, sidesFramed};
 
-// W8: "For number 10, `read x f` serves as `acc x f` does."
+// W8: "For number 10, `read x f` serves as `acc x f` does."; `chain x f` does not.
 fn is_access(work: &[u8], a: usize) -> bool
     requires { ⌜ (length (now work) ≡ work-bytes) × (a < most-atom-rows) ⌝ }
     ensures { λ r. ⌜ r ≡ isAccess (now (work .entry)) a ⌝ }
 {
-    tables::atom_kind(work, a) < AtomKind::EQ
+    tables::atom_kind(work, a) < AtomKind::CHAIN
 }
 
 fn is_of(work: &[u8], a: usize, x: usize, f: usize) -> bool
@@ -87,7 +87,7 @@ fn framed_atom(work: &[u8], first: usize, n: usize, a: usize) -> bool
     requires { ⌜ (length (now work) ≡ work-bytes) × (first + n ≤ most-atom-rows) × (a < most-atom-rows) ⌝ }
     ensures { λ r. ⌜ r ≡ framed (accesses (now (work .entry)) first n) (atomAt (now (work .entry)) a ∷ []) ⌝ }
 {
-    if is_access(work, a) {
+    if tables::atom_kind(work, a) < AtomKind::EQ {
         return true;
     }
     framed_sides(work, first, n, a)

@@ -59,7 +59,7 @@ module _ (Γ : Declarations) (vs : List Variable) (s : Scope) (ws : List Name) w
   var-good :
       Formed Var ws →
       isGood Γ vs s (lineWith Var ws) ≡ (isType Γ (getD ws 0 []) && isNew (getD ws 1 []) (map (λ v. v .name) (s .block .variables)))
-  unfolding isGood isNew run Grammar.opened Scopes.opened Known.allKnown Known.known Known.allTyped Known.ofClass Known.sidesAgree Known.allAssignable Known.mayBeAssigned Known.callApart Base.all Text.formulaOf
+  unfolding isGood isNew run Grammar.opened Scopes.opened Known.allKnown Known.known Known.allTyped Known.ofClass Known.sidesAgree Known.allAssignable Known.mayBeAssigned Known.callApart Known.openApart Base.all Text.formulaOf
   var-good e =
       ap (λ ws. isGood Γ vs s (lineWith Var ws)) (formed-fields (form Var .operands) ws e)
       ∙ two (isType Γ (getD ws 0 [])) (isNew (getD ws 1 []) (map (λ v. v .name) (s .block .variables)))
@@ -68,7 +68,7 @@ module _ (Γ : Declarations) (vs : List Variable) (s : Scope) (ws : List Name) w
   field-good :
       Formed Field ws →
       isGood Γ vs s (lineWith Field ws) ≡ (isType Γ (getD ws 0 []) && isNew (getD ws 1 []) (s .members .fields))
-  unfolding isGood isNew run Grammar.opened Scopes.opened Known.allKnown Known.known Known.allTyped Known.ofClass Known.sidesAgree Known.allAssignable Known.mayBeAssigned Known.callApart Base.all Text.formulaOf
+  unfolding isGood isNew run Grammar.opened Scopes.opened Known.allKnown Known.known Known.allTyped Known.ofClass Known.sidesAgree Known.allAssignable Known.mayBeAssigned Known.callApart Known.openApart Base.all Text.formulaOf
   field-good e =
       ap (λ ws. isGood Γ vs s (lineWith Field ws)) (formed-fields (form Field .operands) ws e)
       ∙ two (isType Γ (getD ws 0 [])) (isNew (getD ws 1 []) (s .members .fields))
@@ -79,7 +79,7 @@ module _ (Γ : Declarations) (vs : List Variable) (s : Scope) (ws : List Name) w
       isGood Γ vs s (lineWith Method ws)
       ≡ ((isType Γ (getD ws 0 []) && isNew (getD ws 1 []) (s .members .methods))
       && (isType Γ (getD ws 2 []) && isNew (getD ws 3 []) (map (λ v. v .name) (s .block .variables))))
-  unfolding isGood isNew run Grammar.opened Scopes.opened Known.allKnown Known.known Known.allTyped Known.ofClass Known.sidesAgree Known.allAssignable Known.mayBeAssigned Known.callApart Base.all Text.formulaOf
+  unfolding isGood isNew run Grammar.opened Scopes.opened Known.allKnown Known.known Known.allTyped Known.ofClass Known.sidesAgree Known.allAssignable Known.mayBeAssigned Known.callApart Known.openApart Base.all Text.formulaOf
   method-good e =
       ap (λ ws. isGood Γ vs s (lineWith Method ws)) (formed-fields (form Method .operands) ws e)
       ∙ four (isType Γ (getD ws 0 [])) (isNew (getD ws 1 []) (s .members .methods)) (isType Γ (getD ws 2 []))

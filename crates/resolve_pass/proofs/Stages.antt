@@ -12,7 +12,7 @@ use Rattle.rules.specs.Answers.{accepted, refused, malformed, limitPassed, text
 use Rattle.rules.specs.Grammar as Grammar
 use Rattle.rules.specs.Grammar.{Kind, Statement, Stage, Line, form, stands, isKind, isClosingNumber, statementNumber, lastStage, nextStage}
 use Rattle.rules.specs.Grammar.{Class, Field, Method, Requires, Ensures, Main, Var, statement}
-use Rattle.rules.specs.Grammar.{Set, Let, New, Call, Return, Assert, Release, If, Else, Join, End, Add, Sub, Loop, Again}
+use Rattle.rules.specs.Grammar.{Set, Let, New, Call, Return, Assert, Release, If, Else, Join, End, Add, Sub, Loop, Again, Open, Shut}
 use Rattle.rules.specs.Grammar.{beginning, inClass, afterMethod, afterHeader, afterRequires, inLocals, inBody, afterReturn, afterMain}
 use Rattle.rules.specs.Places as Places
 use Rattle.rules.specs.Places.{Place, Branch, beforeElse, afterElse, inLoop, stageNumber, mayJoin, outer, fits, inPlace, branchesAfter, placeAfter, placeLine, withinLimits, ended, scanLines}
@@ -271,6 +271,8 @@ loops-pay Add p i = omega arith
 loops-pay Sub p i = omega arith
 loops-pay Loop p i = omega arith
 loops-pay Again p i = omega (arith, loops-outer (p .branches))
+loops-pay Open p i = omega arith
+loops-pay Shut p i = omega arith
 
 -- what a line that is placed shows
 pub record InPlace (k : Kind) (p q : Place) : Type 0 where

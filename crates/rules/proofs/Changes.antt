@@ -10,11 +10,12 @@ use native.Mathlib.Nat.{le-refl}
 use lib.ListN.{length, getD, length-append}
 use Rattle.rules.specs.Base.{ok}
 use Rattle.rules.specs.Syntax.{Rel, Expr, Operation, Simple, Stmt, Field, Method, Formula, Program, methodNumbered, result-variable}
-use Rattle.rules.specs.Syntax.{set, assign, compute, new, call, return, assert, release, simple, if, else, join, loop, again, end}
+use Rattle.rules.specs.Syntax.{path, set, assign, compute, new, call, return, assert, release, openChain, shutChain, simple, if, else, join, loop, again, end}
 use Rattle.rules.specs.Machine.{Config, Frame, Location, Cell, Room, on, halves, wholeOf, without, valueAt, valueOf, locate, value, compared, footprint, jump, advance, bind, holding, withFrame, choose}
-use Rattle.rules.specs.Machine.{ifStep, elseStep, loopStep, againStep, stored, setStep, assignStep, computed, computeStep, newCell, grown, newStep, callFrame, entered, callStep, returned, assertStep, releaseStep, endStep, returnStep, simpleStep, stepAt, step, statementOf}
+use Rattle.rules.specs.Machine.{ifStep, elseStep, loopStep, againStep, stored, setStep, assignStep, computed, computeStep, newCell, grown, newStep, callFrame, entered, callStep, returned, assertStep, releaseStep, takeWalk, openStep, shutStep, endStep, returnStep, simpleStep, stepAt, step, statementOf}
 use Rattle.rules.proofs.Tries.{bind-ok, check-ok, ok-inj}
-use Rattle.rules.proofs.Sets.{location-eq, halves-append, halves-without, whole-most, whole-new, locate-held, locate-is, footprint-held}
+use Rattle.rules.proofs.Sets.{location-eq, halves-append, halves-without, whole-most, whole-new, locate-held, locate-is}
+use Rattle.rules.proofs.Footprints.{footprint-held}
 use Rattle.rules.proofs.Lists.{decide-eq}
 use Rattle.rules.proofs.Heaps.{store-other, store-length, grown-other}
 use Rattle.rules.proofs.States.{on-inj, took-on}
@@ -177,6 +178,21 @@ release-within φ m m′ e =
     (same-heap m (advance (holding (without A (m .frame .held)) (m .frame)))
     (λ p. omega (arith, halves-without A (m .frame .held) p)))
 
+open-within : (y x f : ℕ) (m m′ : Config) → openStep y x f m ≡ ok m′ → Within m m′
+unfolding openStep advance jump bind
+open-within y x f m m′ e =
+    let (_, e₁) = check-ok _ _ e in
+    let (A, _, q) = bind-ok (takeWalk (m .heap) (m .frame) f (valueOf (m .frame) x) []) e₁ in
+    subst (Within m) (ok-inj q) (same-heap m _ (λ p. le-refl _))
+
+shut-within : (x f : ℕ) (m m′ : Config) → shutStep x f m ≡ ok m′ → Within m m′
+unfolding shutStep advance jump
+shut-within x f m m′ e =
+    let (v, _, e₁) = bind-ok (value (m .heap) (m .frame) (path x f)) e in
+    let (A, _, e₂) = bind-ok (takeWalk (m .heap) (m .frame) f v []) e₁ in
+    let (p, _, q) = bind-ok (locate (m .frame) A 2 x f) e₂ in
+    subst (Within m) (ok-inj q) (same-heap m _ (λ p. le-refl _))
+
 jump-within : (m : Config) (i : ℕ) → Within m (withFrame m (jump i (m .frame)))
 unfolding jump
 jump-within m i = same-heap m (jump i (m .frame)) (λ p. le-refl _)
@@ -227,6 +243,8 @@ module _ (room : Room) (P : Program) where
   simple-changes (call x y n z) m m′ e = entering (call-entering y (methodNumbered P n) z m m′ e)
   simple-changes (assert φ) m m′ e = within (assert-within φ m m′ e)
   simple-changes (release φ) m m′ e = within (release-within φ m m′ e)
+  simple-changes (openChain y x f) m m′ e = within (open-within y x f m m′ e)
+  simple-changes (shutChain x f) m m′ e = within (shut-within x f m m′ e)
 
   stepAt-changes : (s : Stmt) (m m′ : Config) → stepAt room P s m ≡ on m′ → Change m m′
   unfolding stepAt ifStep elseStep loopStep againStep

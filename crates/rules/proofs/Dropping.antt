@@ -8,11 +8,12 @@ use Prim.Native.Nat.{ℕ}
 use native.Mathlib.Omega.{arith}
 use lib.Dec.{T, eqb, eqb→eq, eqb-refl, T-not, not-T}
 use Rattle.rules.specs.Base.{bindOption, Member}
-use Rattle.rules.specs.Syntax.{num, null, var, path}
-use Rattle.rules.specs.State.{Term, Permission, State, Renaming, entry, pathOf, equalIn, becomes, lists, withoutPaths, factsWithout, dropPaths, unlisted, remainder, renameVariable, renameTerm, renamePermission, renamePermissions, variables, standIn, removedTerm, removeTo, remove}
+use Rattle.rules.specs.Syntax.{num, null, var, path, isPath}
+use Rattle.rules.specs.State.{Term, Permission, State, Renaming, entry, pathOf, equalIn, paths, becomes, lists, withoutPaths, factsWithout, dropPaths, unlisted, remainder, renameVariable, renameTerm, renamePermission, renamePermissions, variables, standIn, removedTerm, removeTo, remove}
 use Rattle.rules.proofs.Lists.{first-in, and-both, head-or, keep-member, member-keep, went-to, decide-test, F-false, some-inj, none-some, bind-some}
 use Rattle.rules.proofs.Closure.{equalIn-sound, equalIn-complete}
-use Rattle.rules.proofs.Successors.{Known, Formed, Joined, way-renamed, entry-listed, listed-entry, without-is, left-law, drop-law}
+use Rattle.rules.specs.Reached.{Known, Formed}
+use Rattle.rules.proofs.Successors.{Joined, way-renamed, entry-listed, listed-entry, without-is, left-law, drop-law}
 
 -- PATHS
 -- a path of s is one of ps, or gone
@@ -45,9 +46,9 @@ module _ (s : State) (formed : Formed s) (ps : List Permission) where
 
 -- a path is still listed, or it is dropped
 pub kept-or-unlisted : (s : State) (kept : List Permission) → LeftOr s kept (unlisted kept (s .permissions))
-unfolding unlisted
+unfolding unlisted paths
 kept-or-unlisted s kept t h =
-    let (p, i, e) = listed-entry (s .permissions) t h in
+    let (p, i, k, e) = listed-entry (s .permissions) t h in
     ⊎-elim (λ l. inl l)
     (λ n.
     inr
@@ -55,15 +56,16 @@ kept-or-unlisted s kept t h =
     (entry-listed (unlisted kept (s .permissions)) p
     (member-keep (λ p. not (lists kept (pathOf p))) _ p
     (not-T (lists kept (pathOf p)) (subst (λ t. T (lists kept t) → ⊥) (sym e) n))
-    i))))
+    (member-keep (λ q. isPath (q .permit)) (s .permissions) p k i))
+    k)))
     (decide-test (lists kept t))
 
 -- a term that is known of what is left is not dropped
 pub known-left : (s : State) (kept : List Permission) (t : Term) → Known kept t → T (lists (unlisted kept (s .permissions)) t) → ⊥
 unfolding unlisted pathOf
 known-left s kept t k h =
-    let (p, i, e) = listed-entry (unlisted kept (s .permissions)) t h in
-    let (_, n) = keep-member (λ p. not (lists kept (pathOf p))) (s .permissions) p i in
+    let (p, i, _, e) = listed-entry (unlisted kept (s .permissions)) t h in
+    let (_, n) = keep-member (λ p. not (lists kept (pathOf p))) (paths (s .permissions)) p i in
     T-not (lists kept (pathOf p)) n (named t k p e)
   where
     named : (t : Term) → Known kept t → (p : Permission) → pathOf p ≡ t → T (lists kept (pathOf p))
@@ -72,7 +74,7 @@ known-left s kept t k h =
     named (var v) k p e = absurd (let z : _≡_ {A = ℕ} 0 1 = cc in omega arith)
     named (path v f) k p e = subst (λ t. T (lists kept t)) (sym e) k
 
--- the law at `release`, and at a `call` before x is removed; it holds whatever is left of the entries
+-- the law at `release`, `shut`, and at a `call` before x is removed; it holds whatever is left of the entries
 pub remainder-law :
     (s : State) (kept : List Permission) → Formed s → (a b : Term) → Known kept a → Known kept b →
     T (equalIn (remainder s kept) a b) ↔ T (equalIn s a b)
@@ -82,7 +84,7 @@ remainder-law s kept F a b ka kb =
 
 only : (p : Permission) (t : Term) → T (lists (p ∷ []) t) → pathOf p ≡ t
 only p t h =
-    let (q, i, e) = listed-entry (p ∷ []) t h in
+    let (q, i, _, e) = listed-entry (p ∷ []) t h in
     ap pathOf (⊎-elim (λ j. elim j [ ]) (λ w. sym w) (head-or i)) ∙ e
 
 -- the law at `set`, before the new value is added
@@ -108,7 +110,7 @@ renamed-known x to ps N (var v) u e k =
     go false w m = subst (λ z. Member z variables) (some-inj m) k
 renamed-known x to ps N (path v f) u e k =
     let (w, m, q) = bind-some (cond (eqb v x) to (some v)) _ u e in
-    let (p, i, z) = listed-entry ps (path v f) k in
+    let (p, i, listable, z) = listed-entry ps (path v f) k in
     let zv : p .variable ≡ v = cc in
     let zf : p .field ≡ f = cc in
     subst (Known _) (some-inj q)
@@ -116,7 +118,8 @@ renamed-known x to ps N (path v f) u e k =
     (went-to (renamePermission x to) ps p (entry (p .permit) w f)
     (ap (λ (o : Option ℕ). bindOption o (λ w. some (entry (p .permit) w (p .field))))
     (subst (λ v. cond (eqb v x) to (some v) ≡ some w) (sym zv) m)
-    ∙ ap (λ (g : ℕ). some (entry (p .permit) w g)) zf) i))
+    ∙ ap (λ (g : ℕ). some (entry (p .permit) w g)) zf) i)
+    listable)
 
 -- where none takes its place: x and the paths of x are dropped
 dropped-variable : (x v w : ℕ) → renameVariable x none v ≡ some w → v ≡ w

@@ -275,7 +275,79 @@ tens ls =
     ++ ("main" ∷ "var S s" ∷ "var int b" ∷ "var int c" ∷ "new s S" ∷ []
     ++ (times 4 "call b s m5 c" ++ (times 5 "call b s m4 c" ++ (ls ++ ("end" ∷ []))))))))))
 
+-- "A recursive walk over a chain must pass the check": each card gets the number k
+unfoldable pub walked : List String
+walked =
+    "class S" ∷
+    "field S prev" ∷
+    "field int n" ∷
+    "method int visit int k" ∷
+    "requires ne this null chain this prev" ∷
+    "ensures chain this prev" ∷
+    "var S t" ∷
+    "var int r" ∷
+    "open t this prev" ∷
+    "if ne t null" ∷
+    "call r t visit k" ∷
+    "else" ∷
+    "join acc this prev eq this.prev t chain t prev" ∷
+    "shut this prev" ∷
+    "return k" ∷
+    "end" ∷
+    "main" ∷
+    "var S a" ∷
+    "var S b" ∷
+    "var S c" ∷
+    "var int k" ∷
+    "var int r" ∷
+    "new a S" ∷
+    "shut a prev" ∷
+    "new b S" ∷
+    "set b prev a" ∷
+    "shut b prev" ∷
+    "new c S" ∷
+    "set c prev b" ∷
+    "shut c prev" ∷
+    "let k 7" ∷
+    "call r c visit k" ∷
+    "assert chain c prev" ∷
+    "open a c prev" ∷
+    "assert acc c prev eq c.prev a" ∷
+    "end" ∷
+    []
+
+-- a main with the cards s, t, u and these lines, from line 8 on
+unfoldable pub cards : List String → List String
+cards ls =
+    "class S" ∷ "field S prev" ∷ "field int n" ∷ "main" ∷ "var S s" ∷ "var S t" ∷ "var S u" ∷ (ls ++ ("end" ∷ []))
+
+-- two cards of which s links to t, and these lines, from line 11 on
+unfoldable pub linked : List String → List String
+linked ls = cards ("new s S" ∷ "new t S" ∷ "set s prev t" ∷ ls)
+
+-- the same, both shut, from line 13 on
+unfoldable pub shutBoth : List String → List String
+shutBoth ls = linked ("shut t prev" ∷ "shut s prev" ∷ ls)
+
+-- two cards that link to each other, from line 12 on
+unfoldable pub ring : List String → List String
+ring ls = linked ("set t prev s" ∷ ls)
+
+-- a method of S with a parameter w of S, with this requires and these lines, from line 7 on
+unfoldable pub ofChain : String → List String → List String
+ofChain requires ls =
+    "class S" ∷ "field S prev" ∷ "method int m S w" ∷ requires ∷ "ensures" ∷ "var S t" ∷ (ls ++ ("end" ∷ "main" ∷ "end" ∷ []))
+
+-- a method of S with a parameter w of S, with this requires and, from line 6 on, these lines
+unfoldable pub ofTwo : String → List String → List String
+ofTwo requires ls =
+    "class S" ∷ "field int n" ∷ "method int m S w" ∷ requires ∷ "ensures" ∷ (ls ++ ("end" ∷ "main" ∷ "end" ∷ []))
+
+-- a main with a new card s, and these lines from line 11 on
+unfoldable pub withCard : List String → List String
+withCard ls = script ("new s S" ∷ ls)
+
 -- Everything above computes where this unfolds.
 unfoldable pub opened : Unit {0}
-unfolding alias acrossCall twice oldValue twoFields branching innerJoin throughPath overTwoPaths oneName oneOnBothSides counting walk leaving unframed deep lower rings tens
+unfolding alias acrossCall twice oldValue twoFields branching innerJoin throughPath overTwoPaths oneName oneOnBothSides counting walk leaving unframed deep lower rings tens walked cards linked shutBoth ring ofChain ofTwo withCard
 opened = tt

@@ -1,25 +1,14 @@
--- The common theorem on examples: those of documents 01 and 02, a text against each reading that is tempting and wrong, and the rows of
--- the files `Examples*`, which pin the definitions sentence by sentence.
-use mathlib.Core.Path.{_≡_}
+-- The examples that documents 01 and 02 state, and a text against each reading that is tempting and wrong. The crate `examples` has
+-- rows for every sentence, and the common theorem.
 use mathlib.Core.List.{List, [], _∷_, _++_}
-use Prim.Native.Nat.{ℕ, zero, suc, _<_}
-use native.Mathlib.Nat.{not-suc-le-zero, le-of-suc-le-suc}
 use lib.Dec.{T}
-use lib.ListN.{length, getD}
 use Rattle.rules.specs.Base.{all}
 use Rattle.rules.specs.Calls.{computing}
 use Rattle.rules.specs.Printed as Printed
-use Rattle.rules.proofs.Lists.{and-intro, and-both, same-name}
 use Rattle.rules.proofs.ExampleRows as ExampleRows
-use Rattle.rules.proofs.ExampleRows.{Row, check, run, trial, bound, print, answer, bare, row, three, right, text, withLine, times, oneLine, script, numbers, method}
+use Rattle.rules.proofs.ExampleRows.{Row, check, run, trial, bound, print, row, three, right, text, withLine, times, oneLine, script, numbers, method}
 use Rattle.rules.proofs.ExampleTexts as ExampleTexts
-use Rattle.rules.proofs.ExampleTexts.{worked, alias, acrossCall, twice, oldValue, twoFields, branching, innerJoin, throughPath, overTwoPaths, oneName, oneOnBothSides, counting, walk, leaving, unframed, deep, lower, rings, tens}
-use Rattle.rules.proofs.ExamplesText.{textRows, text-right}
-use Rattle.rules.proofs.ExamplesNames.{nameRows, names-right}
-use Rattle.rules.proofs.ExamplesChecker.{stateRows, ruleRows, state-right, rules-right}
-use Rattle.rules.proofs.ExamplesMachine.{machineRows, machine-right}
-use Rattle.rules.proofs.ExamplesHalves.{halfRows, halves-right}
-use Rattle.rules.proofs.ExamplesCalls.{callRows, calls-right}
+use Rattle.rules.proofs.ExampleTexts.{worked, alias, acrossCall, twice, oldValue, twoFields, branching, innerJoin, throughPath, overTwoPaths, oneName, oneOnBothSides, counting, walk, leaving, unframed, deep, lower, rings, tens, walked, cards, linked, shutBoth, ring, ofChain, ofTwo, withCard}
 
 abbrev pub rows : List Row
 rows =
@@ -173,42 +162,26 @@ rows =
     row (script ("assert eq a 1" ∷ "if eq a b" ∷ "else" ∷ "join eq s.n 1" ∷ [])) check (10 ∷ 13 ∷ []) ∷
     row (withLine 6 "ensures" worked) check (11 ∷ 17 ∷ []) ∷
     row (withLine 6 "ensures" worked) (trial 1000) (24 ∷ 17 ∷ 5 ∷ three 1 7 7) ∷
+    -- W8: "taken from an `acc` it leaves a `read` of that path"; "Way (d) of showing `ne` needs an `acc` among the two."
+    row (withCard ("release read s n" ∷ "assert acc s n" ∷ [])) check (12 ∷ 12 ∷ []) ∷
+    row (ofTwo "requires read this n read w n" ("assert ne this w" ∷ [])) check (13 ∷ 6 ∷ []) ∷
+    -- W9: "A recursive walk over a chain must pass the check", and two cards that link to each other are no chain
+    row walked check (0 ∷ 0 ∷ []) ∷
+    row walked (run 1000) (0 ∷ 36 ∷ 33 ∷ 2 ∷ 2 ∷ 3 ∷ 7 ∷ 7 ∷ 0 ∷ 0 ∷ 0 ∷ 0 ∷ 0 ∷ 0 ∷ 0 ∷ []) ∷
+    row (ring ("assert chain s prev" ∷ [])) check (12 ∷ 12 ∷ []) ∷
+    row (ring ("assert chain s prev" ∷ [])) (trial 1000) (26 ∷ 12 ∷ 4 ∷ three 1 2 0) ∷
+    -- a chain is no listed path, and does not show x ≠ null
+    row (shutBoth ("assert eq s.prev t" ∷ [])) check (11 ∷ 13 ∷ []) ∷
+    row (ofChain "requires chain w prev" ("assert ne w null" ∷ [])) check (13 ∷ 7 ∷ []) ∷
+    row (cards ("let s null" ∷ "open t s prev" ∷ [])) check (13 ∷ 9 ∷ []) ∷
+    -- `open` removes y, `shut` takes the chain of the value
+    row (shutBoth ("new u S" ∷ "open u s prev" ∷ "assert acc u n" ∷ [])) check (12 ∷ 15 ∷ []) ∷
+    row (shutBoth ("assert chain t prev" ∷ [])) check (12 ∷ 13 ∷ []) ∷
+    -- the walk goes to the last card, and two chains share none
+    row (linked ("release read t prev" ∷ "assert chain s prev" ∷ [])) (trial 1000) (24 ∷ 12 ∷ 4 ∷ three 1 2 0) ∷
+    row (linked ("assert chain t prev chain s prev" ∷ [])) (trial 1000) (24 ∷ 11 ∷ 3 ∷ three 1 2 0) ∷
     []
 
-rows-right : T (all right rows)
+pub rows-right : T (all right rows)
 unfolding computing Printed.opened ExampleRows.opened ExampleTexts.opened
 rows-right = tt
-
--- and those that pin the definitions
-abbrev pub everyRow : List Row
-everyRow = rows ++ (textRows ++ (nameRows ++ (stateRows ++ (ruleRows ++ (machineRows ++ (halfRows ++ callRows))))))
-
-both-right : (l m : List Row) → T (all right l) → T (all right m) → T (all right (l ++ m))
-unfolding all
-both-right [] m h k = k
-both-right (r ∷ l) m h k =
-    let (x, y) = and-both (right r) (all right l) h in and-intro (right r) (all right (l ++ m)) x (both-right l m y k)
-
-all-right : T (all right everyRow)
-all-right =
-    both-right rows _ rows-right
-    (both-right textRows _ text-right
-    (both-right nameRows _ names-right
-    (both-right stateRows _ state-right
-    (both-right ruleRows _ rules-right
-    (both-right machineRows _ machine-right
-    (both-right halfRows callRows halves-right calls-right))))))
-
-right-at : (rs : List Row) (d : Row) (i : ℕ) → i < length rs → T (all right rs) → T (right (getD rs i d))
-unfolding all
-right-at [] d i l t = absurd (not-suc-le-zero l)
-right-at (r ∷ rs) d zero l t = and-both (right r) (all right rs) t .0
-right-at (r ∷ rs) d (suc i) l t = right-at rs d i (le-of-suc-le-suc l) (and-both (right r) (all right rs) t .1)
-
-abbrev pub rowNumbered : ℕ → Row
-rowNumbered i = getD everyRow i (bare [] check [])
-
--- The common theorem: what each row says is so.
-pub examples : (i : ℕ) → i < length everyRow → answer (rowNumbered i .text) (rowNumbered i .call) ≡ rowNumbered i .answer
-unfolding right
-examples i l = same-name _ _ (right-at everyRow (bare [] check []) i l all-right)

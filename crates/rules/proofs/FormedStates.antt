@@ -8,15 +8,16 @@ use mathlib.Core.Option.{Option, none, some}
 use Prim.Native.Nat.{ℕ}
 use lib.Dec.{T, eqb}
 use lib.ListN.{getD}
-use Rattle.rules.specs.Base.{ok, any, first, mapOption, bindOption, orElse, Member, at-head, further}
+use Rattle.rules.specs.Base.{ok, any, keep, first, mapOption, bindOption, orElse, Member, at-head, further}
 use Rattle.rules.specs.Answers.{unresolved, notShown, noPermission}
-use Rattle.rules.specs.Syntax.{Rel, Permit, Formula, Field, Method, Program, Simple, methodNumbered, num, null, var, path, acc, read, own, cmp, eq, ne, set, assign, compute, new, call, assert, release, same, this-variable, parameter, result-variable}
-use Rattle.rules.specs.State.{Term, Permission, Fact, State, Equality, Split, Renaming, empty, entry, pathOf, equalIn, names, resolve, holdsIn, split, withPermit, giving, show, lists}
+use Rattle.rules.specs.Syntax.{Rel, Permit, Formula, Field, Method, Program, Simple, methodNumbered, num, null, var, path, acc, read, chain, isPath, own, cmp, eq, ne, set, assign, compute, new, call, assert, release, openChain, shutChain, same, this-variable, parameter, result-variable}
+use Rattle.rules.specs.State.{Term, Permission, Fact, State, Equality, Split, Renaming, empty, entry, pathOf, equalIn, entryOf, names, resolve, holdsIn, split, leaves, withPermit, giving, takeOwn, show, paths, lists}
 use Rattle.rules.specs.State.{variables, termsOf, becomes, renameFact, trivial, renameFacts, withoutPaths, factsWithout, dropPaths, unlisted, remainder, renameTerm, renamePermissions, standIn, removedTerm, removeTo, remove, addPermission, addFact, joining, joins, addRead, addOwn, add}
-use Rattle.rules.specs.Rules.{actual, substTerm, substAtom, addEqual, assignRule, addFields, initial, addInitial, newRule, setRule, callRule, opposite, ifRule, rule}
-use Rattle.rules.proofs.Lists.{head-or, is-head, append-member, member-left, member-right, keep-member, came-from, end-member, bind-some, some-inj, none-some, first-in}
+use Rattle.rules.specs.Rules.{actual, substTerm, substAtom, addEqual, assignRule, addFields, initial, addInitial, newRule, setRule, callRule, openRule, shutRule, opposite, ifRule, rule}
+use Rattle.rules.proofs.Lists.{and-both, head-or, is-head, append-member, member-left, member-right, keep-member, came-from, end-member, bind-some, some-inj, none-some, first-in}
 use Rattle.rules.proofs.Tries.{bind-ok, check-ok, orElse-ok, ok-inj}
-use Rattle.rules.proofs.Successors.{Known, Formed, entry-listed, listed-entry, order-known, gives-way, successor-is, without-is}
+use Rattle.rules.specs.Reached.{Known, Formed}
+use Rattle.rules.proofs.Successors.{entry-listed, listed-entry, order-known, gives-way, successor-is, without-is}
 use Rattle.rules.proofs.Dropping.{LeftOr, still-known, kept-or-unlisted, renamed-known}
 
 -- TERMS OF FACTS
@@ -63,11 +64,11 @@ known-more ps qs (path v f) m k = m _ k
 
 still-more : (ps qs : List Permission) → ((p : Permission) → Member p ps → Member p qs) → Still ps qs
 still-more ps qs m t h =
-    let (p, i, e) = listed-entry ps t h in subst (λ t. T (lists qs t)) e (entry-listed qs p (m p i))
+    let (p, i, k, e) = listed-entry ps t h in subst (λ t. T (lists qs t)) e (entry-listed qs p (m p i) k)
 
-path-known : (ps : List Permission) (p : Permission) → Member p ps → Known ps (pathOf p)
+path-known : (ps : List Permission) (p : Permission) → Member p ps → T (isPath (p .permit)) → Known ps (pathOf p)
 unfolding pathOf
-path-known ps p i = entry-listed ps p i
+path-known ps p i k = entry-listed ps p i k
 
 -- the entry that gave way, and what came in its place
 pub record Parted (t : Permission → Option (List Permission)) (ps : List Permission) (c : Split) : Type 0 where
@@ -153,28 +154,28 @@ NamedFormula (own k x f ∷ φ) = NamedFormula φ
 NamedFormula (cmp n a b ∷ φ) = Named a × Named b × NamedFormula φ
 
 pub resolved-known : (_~_ : Equality) (ps : List Permission) (e t : Term) → Named e → resolve _~_ ps e ≡ ok t → Known ps t
-unfolding resolve
+unfolding resolve names
 resolved-known l ps (num n) t k r = subst (Known ps) (ok-inj r) tt
 resolved-known l ps null t k r = subst (Known ps) (ok-inj r) tt
 resolved-known l ps (var x) t k r = subst (Known ps) (ok-inj r) k
 resolved-known l ps (path y f) t k r =
     let (p, e, q) = bind-ok (orElse (first (names l y f) ps) unresolved) r in
-    let (i, _) = first-in (names l y f) ps p (orElse-ok _ unresolved p e) in
-    subst (Known ps) (ok-inj q) (path-known ps p i)
+    let (i, g) = first-in (names l y f) ps p (orElse-ok _ unresolved p e) in
+    subst (Known ps) (ok-inj q) (path-known ps p i (and-both (isPath (p .permit)) _ g .0))
 
 -- a `read` that becomes an `acc` is listed under its name
 joined-still :
     (_~_ : Equality) (x f : ℕ) (ps : List Permission) (c : Split) → split (joins _~_ x f) ps ≡ some c → Still ps (c .list)
-unfolding joins joining withPermit pathOf
+unfolding joins joining withPermit pathOf isPath
 joined-still _~_ x f ps c e t h =
     let D : Parted (joins _~_ x f) ps c = parted _ ps c e in
-    let (p, i, z) = listed-entry ps t h in
+    let (p, i, k, z) = listed-entry ps t h in
     subst (λ t. T (lists (c .list) t)) z
-    (⊎-elim (λ j. entry-listed (c .list) p j)
+    (⊎-elim (λ j. entry-listed (c .list) p j k)
     (λ w.
     subst (λ (q : Permission). T (lists (c .list) (path (q .variable) (q .field)))) (sym w)
     (entry-listed (c .list) (entry acc (c .taken .variable) (c .taken .field))
-    (D .comes _ (is-acc (names _~_ x f (c .taken)) (c .taken .permit) (D .gives)))))
+    (D .comes _ (is-acc (entryOf _~_ (var x) f (c .taken)) (c .taken .permit) (D .gives))) tt))
     (D .stays p i))
   where
     is-acc :
@@ -182,11 +183,13 @@ joined-still _~_ x f ps c e t h =
         Member (entry acc (c .taken .variable) (c .taken .field)) (c .left)
     is-acc true acc q = none-some q
     is-acc true read q = subst (Member _) (some-inj q) at-head
+    is-acc true chain q = none-some q
     is-acc false k q = none-some q
 
 pub formed-own : (k : Permit) (x f : ℕ) (s s′ : State) → Formed s → addOwn k x f s ≡ ok s′ → Formed s′
 unfolding addOwn addRead
 formed-own acc x f s s′ F e = formed-permission (entry acc x f) s s′ F e .0
+formed-own chain x f s s′ F e = formed-permission (entry chain x f) s s′ F e .0
 formed-own read x f s s′ F e = go (split (joins (equalIn s) x f) (s .permissions)) refl e
   where
     go : (o : Option Split) → split (joins (equalIn s) x f) (s .permissions) ≡ o → addRead x f s o ≡ ok s′ → Formed s′
@@ -233,7 +236,7 @@ module _ (s : State) (F : Formed s) (ρ : Renaming) (ps : List Permission)
 
 pub formed-dropped :
     (gone ps : List Permission) (s : State) → Formed s → LeftOr s ps gone → Formed (dropPaths gone ps s)
-unfolding dropPaths factsWithout lists any
+unfolding dropPaths factsWithout lists paths keep any
 formed-dropped [] ps s F all =
     λ t i. known-more (s .permissions) _ t (λ t j. ⊎-elim (λ k. k) (λ k. absurd k) (all t j)) (F t i)
 formed-dropped (p ∷ gone) ps s F all =
@@ -296,18 +299,30 @@ formed-assign x a s s′ v na F e =
         formed-equal x (removedTerm x (standIn s x) s r) (removeTo x (standIn s x) s) s′ v (λ t m. removed-known s F x r t m k)
         (formed-removed s F x) e
 
--- the path that shows an atom is listed
-taken-known :
-    (t : Permission → Option (List Permission)) (ps : List Permission) (c : Split) → split t ps ≡ some c → Known ps (pathOf (c .taken))
-taken-known t ps c e = path-known ps (c .taken) (parted t ps c e .was)
+-- the path that shows `acc x f` is listed
+acc-known :
+    (_~_ : Equality) (t : Term) (f : ℕ) (ps : List Permission) (c : Split) → split (giving _~_ acc t f) ps ≡ some c →
+    Known ps (pathOf (c .taken))
+unfolding giving leaves isPath bindOption
+acc-known _~_ t f ps c e =
+    let D : Parted (giving _~_ acc t f) ps c = parted _ ps c e in
+    path-known ps (c .taken) (D .was) (go (entryOf _~_ t f (c .taken)) (c .taken .permit) (D .gives))
+  where
+    go :
+        (b : Bool) (k : Permit) →
+        cond b (bindOption (leaves acc k) (λ ks. some (map (withPermit (c .taken)) ks))) none ≡ some (c .left) → T (isPath k)
+    go true acc q = tt
+    go true read q = none-some q
+    go true chain q = none-some q
+    go false k q = none-some q
 
 pub formed-set : (x f y : ℕ) (s s′ : State) → Member y variables → Formed s → setRule x f y s ≡ ok s′ → Formed s′
 unfolding setRule dropPaths pathOf
 formed-set x f y s s′ v F e =
-    let (c, o, e₁) = bind-ok (orElse (split (giving (equalIn s) acc x f) (s .permissions)) noPermission) e in
+    let (c, o, e₁) = bind-ok (orElse (split (giving (equalIn s) acc (var x) f) (s .permissions)) noPermission) e in
     formed-fact eq (pathOf (c .taken)) (var y) (dropPaths (c .taken ∷ []) (s .permissions) s) s′
     (formed-dropped (c .taken ∷ []) (s .permissions) s F (λ t i. inl i))
-    (taken-known _ (s .permissions) c (orElse-ok _ noPermission c o)) v e₁ .0
+    (acc-known _ (var x) f (s .permissions) c (orElse-ok _ noPermission c o)) v e₁ .0
 
 -- `new`: every path that is said to be null or 0 is listed first
 fields-formed :
@@ -342,11 +357,11 @@ initial-known ps g = go (g .int)
 initials-formed :
     (x : ℕ) (fs : List Field) (s s′ : State) → Formed s →
     ((g : Field) → Member g fs → Member (entry acc x (g .name)) (s .permissions)) → addInitial x fs s ≡ ok s′ → Formed s′
-unfolding addInitial pathOf
+unfolding addInitial pathOf isPath
 initials-formed x [] s s′ F L e = subst Formed (ok-inj e) F
 initials-formed x (f ∷ fs) s s′ F L e =
     let (s₁, a, b) = bind-ok (addFact eq (path x (f .name)) (initial f) s) e in
-    let (F₁, is) = formed-fact eq (path x (f .name)) (initial f) s s₁ F (path-known (s .permissions) (entry acc x (f .name)) (L f at-head)) (initial-known (s .permissions) f) a in
+    let (F₁, is) = formed-fact eq (path x (f .name)) (initial f) s s₁ F (path-known (s .permissions) (entry acc x (f .name)) (L f at-head) tt) (initial-known (s .permissions) f) a in
     initials-formed x fs s₁ s′ F₁ (λ g i. subst (Member _) (sym is) (L g (further i))) b
 
 pub formed-new : (x : ℕ) (fs : List Field) (s s′ : State) → Member x variables → Formed s → newRule x fs s ≡ ok s′ → Formed s′
@@ -392,6 +407,29 @@ module _ (x y z : ℕ) (mx : Member x variables) (my : Member y variables) (mz :
       formed-add (map (substAtom (actual y z x)) (M .ensures)) (remove x (remainder s r)) s′ (formula-named (M .ensures) N)
       (formed-removed (remainder s r) (formed-remainder s r F) x) e₂
 
+-- `open`: `x.f` is listed before it is said to be y
+pub formed-open : (y x f : ℕ) (s s′ : State) → Member y variables → Formed s → openRule y x f s ≡ ok s′ → Formed s′
+unfolding openRule pathOf isPath
+formed-open y x f s s′ v F e =
+    let (_, e₁) = check-ok (holdsIn (equalIn s) s ne (var x) null) notShown e in
+    let (r, _, e₂) = bind-ok (takeOwn (equalIn s) chain (var x) f (s .permissions)) e₁ in
+    let s₀ : State = remove y (remainder s r) in
+    let p : Permission = entry acc x f in
+    let (s₁, a, e₃) = bind-ok (addPermission p s₀) e₂ in
+    let (s₂, b, e₄) = bind-ok (addFact eq (path x f) (var y) s₁) e₃ in
+    let (F₁, is) = formed-permission p s₀ s₁ (formed-removed (remainder s r) (formed-remainder s r F) y) a in
+    let at-end : Member p (s₁ .permissions) = subst (Member p) (sym is) (member-right (s₀ .permissions) (p ∷ []) p at-head) in
+    let (F₂, _) = formed-fact eq (path x f) (var y) s₁ s₂ F₁ (path-known (s₁ .permissions) p at-end tt) v b in
+    formed-permission (entry chain y f) s₂ s′ F₂ e₄ .0
+
+pub formed-shut : (x f : ℕ) (s s′ : State) → Formed s → shutRule x f s ≡ ok s′ → Formed s′
+unfolding shutRule
+formed-shut x f s s′ F e =
+    let (p, _, e₁) = bind-ok (orElse (first (names (equalIn s) x f) (s .permissions)) noPermission) e in
+    let (r, _, e₂) = bind-ok (takeOwn (equalIn s) chain (pathOf p) f (s .permissions)) e₁ in
+    let (r′, _, e₃) = bind-ok (takeOwn (equalIn s) acc (var x) f r) e₂ in
+    formed-permission (entry chain x f) (remainder s r′) s′ (formed-remainder s r′ F) e₃ .0
+
 -- what a statement names
 abbrev pub NamedSimple : Program → Simple → Type 0
 NamedSimple P (set x f y) = Member y variables
@@ -402,6 +440,8 @@ NamedSimple P (call x y m z) =
     Member x variables × Member y variables × Member z variables × NamedFormula (methodNumbered P m .ensures)
 NamedSimple P (assert φ) = Unit {0}
 NamedSimple P (release φ) = Unit {0}
+NamedSimple P (openChain y x f) = Member y variables
+NamedSimple P (shutChain x f) = Unit {0}
 
 -- THE CLAIM
 pub formed-rule : (P : Program) (p : Simple) (s s′ : State) → NamedSimple P p → Formed s → rule P p s ≡ ok s′ → Formed s′
@@ -414,3 +454,5 @@ formed-rule P (call x y m z) s s′ N F e = formed-call x y z (N .0) (N .1) (N .
 formed-rule P (assert φ) s s′ N F e = let (_, _, q) = bind-ok (show s φ) e in subst Formed (ok-inj q) F
 formed-rule P (release φ) s s′ N F e =
     let (r, a, q) = bind-ok (show s φ) e in subst Formed (ok-inj q) (formed-remainder s r F)
+formed-rule P (openChain y x f) s s′ N F e = formed-open y x f s s′ N F e
+formed-rule P (shutChain x f) s s′ N F e = formed-shut x f s s′ F e

@@ -8,7 +8,7 @@ use lib.ListN.{getD}
 use Rattle.rules.specs.Base.{all, between}
 use Rattle.rules.specs.Grammar as Grammar
 use Rattle.rules.specs.Grammar.{Kind, Class, Field, Method, Requires, Ensures, Main, Var, statement}
-use Rattle.rules.specs.Grammar.{Set, Let, New, Call, Return, Assert, Release, If, Else, Join, End, Add, Sub, Loop, Again}
+use Rattle.rules.specs.Grammar.{Set, Let, New, Call, Return, Assert, Release, If, Else, Join, End, Add, Sub, Loop, Again, Open, Shut}
 use Rattle.rules.specs.Grammar.{kinds, first-statement, last-kind, IsKindNumber, kindNumber, isStatement, isKind}
 use Rattle.rules.proofs.Lists.{and-both}
 
@@ -39,6 +39,8 @@ kind-at (statement Add) = refl
 kind-at (statement Sub) = refl
 kind-at (statement Loop) = refl
 kind-at (statement Again) = refl
+kind-at (statement Open) = refl
+kind-at (statement Shut) = refl
 
 all-at : {A : Type 0} (t : A → Bool) (a : A) (l : List A) (i : ℕ) → T (t a) → T (all t l) → T (t (getD l i a))
 unfolding all

@@ -8,8 +8,9 @@ use mathlib.Core.Option.{Option, none, some}
 use Prim.Native.Nat.{ℕ}
 use lib.Dec.{T, leb, not-T}
 use Rattle.rules.specs.Base.{mapOption, bindOption, Member, at-head, further}
-use Rattle.rules.specs.Syntax.{offset, eq, num, null, var, path, same}
-use Rattle.rules.specs.State.{Term, Permission, Fact, State, Equality, Renaming, pathOf, isNe, equalIn, numbers, termsOf, variables, insert, rising, inOrder, isLeft, successor, givesWay, becomes, renameFact, trivial, renameFacts, lists, withoutPaths}
+use Rattle.rules.specs.Syntax.{offset, eq, num, null, var, path, isPath, same}
+use Rattle.rules.specs.State.{Term, Permission, Fact, State, Equality, Renaming, pathOf, isNe, equalIn, numbers, termsOf, variables, insert, rising, inOrder, isLeft, successor, givesWay, becomes, renameFact, trivial, renameFacts, paths, lists, withoutPaths}
+use Rattle.rules.specs.Reached.{Known}
 use Rattle.rules.proofs.Lists.{head-or, is-head, append-member, member-left, member-right, map-member, member-map, keep-member, member-keep, came-from, went-to, and-both, and-intro, any-in, in-any, first-in, first-some, none-some, some-inj, bind-some, option-cases, decide-test}
 use Rattle.rules.proofs.Closure.{Listed, here, there, Linked, itself, listed, back, onward, same→≡, same-refl, equalIn-sound, equalIn-complete}
 
@@ -31,18 +32,21 @@ is-left ρ t e = go (ρ t) e
     go (some u) e = subst (λ v. T (same u v)) (some-inj e) (same-refl u)
 
 -- PATHS THAT ARE LISTED
--- the path of an entry is listed, and no other
+-- the path of an entry that is no chain is listed, and no other
 pub entry-listed :
-    (ps : List Permission) (p : Permission) → Member p ps → T (lists ps (pathOf p))
-unfolding lists
-entry-listed ps p i = any-in (λ q. same (pathOf q) (pathOf p)) ps p i (same-refl (pathOf p))
+    (ps : List Permission) (p : Permission) → Member p ps → T (isPath (p .permit)) → T (lists ps (pathOf p))
+unfolding lists paths
+entry-listed ps p i k =
+    any-in (λ q. same (pathOf q) (pathOf p)) (paths ps) p (member-keep (λ q. isPath (q .permit)) ps p k i)
+    (same-refl (pathOf p))
 
 pub listed-entry :
     (ps : List Permission) (t : Term) → T (lists ps t) →
-    (p : Permission) × Member p ps × (pathOf p ≡ t)
-unfolding lists
+    (p : Permission) × Member p ps × T (isPath (p .permit)) × (pathOf p ≡ t)
+unfolding lists paths
 listed-entry ps t h =
-    in-any _ ps h λ p i e. (p, i, same→≡ _ _ e)
+    in-any _ (paths ps) h λ p i e.
+    let (j, k) = keep-member (λ q. isPath (q .permit)) ps p i in (p, j, k, same→≡ _ _ e)
 
 -- a term that is left is the term itself
 pub without-is : (gone : List Permission) (t u : Term) → withoutPaths gone t ≡ some u → (T (lists gone t) → ⊥) × (t ≡ u)
@@ -206,15 +210,6 @@ module _ (fs : List Fact) (g : Renaming) where
         (after-before, λ j. let m : Meet (g a) (g b) = joined-meet j in let m₁ : Meet (some a) (g b) = rw ea at m in rw eb at m₁)
 
 -- STATES: "equalities and inequalities over variables, constants and listed paths"
-abbrev pub Known : List Permission → Term → Type 0
-Known ps (num n) = Unit {0}
-Known ps null = Unit {0}
-Known ps (var v) = Member v variables
-Known ps (path v f) = T (lists ps (path v f))
-
-abbrev pub Formed : State → Type 0
-Formed s = (t : Term) → Member t (termsOf (s .facts)) → Known (s .permissions) t
-
 -- the order has every such term
 insert-member : (n m : ℕ) (ns : List ℕ) → Member n ns ⊎ (n ≡ m) → Member n (insert m ns)
 unfolding insert
@@ -254,33 +249,36 @@ number-member n (t ∷ ts) i =
     (head-or i)
 
 known-ordered : (ps : List Permission) (fs : List Fact) (t : Term) → Known ps t → Member t (termsOf fs) → Member t (inOrder ps fs)
-unfolding inOrder
+unfolding inOrder paths
 known-ordered ps fs (num n) k i =
     member-right (map var variables) _ _
-    (member-right (map pathOf ps) _ _ (further (member-map num _ n (rising-member n _ (number-member n (termsOf fs) i)))))
-known-ordered ps fs null k i = member-right (map var variables) _ _ (member-right (map pathOf ps) _ _ at-head)
+    (member-right (map pathOf (paths ps)) _ _ (further (member-map num _ n (rising-member n _ (number-member n (termsOf fs) i)))))
+known-ordered ps fs null k i = member-right (map var variables) _ _ (member-right (map pathOf (paths ps)) _ _ at-head)
 known-ordered ps fs (var v) k i = member-left (map var variables) _ _ (member-map var variables v k)
 known-ordered ps fs (path v f) k i =
-    let (p, j, e) = listed-entry ps (path v f) k in
+    let (p, j, q, e) = listed-entry ps (path v f) k in
     subst (λ t. Member t (inOrder ps fs)) e
     (member-right (map var variables) _ _
-    (member-left (map pathOf ps) _ _ (member-map pathOf ps p j)))
+    (member-left (map pathOf (paths ps)) _ _ (member-map pathOf (paths ps) p (member-keep (λ q. isPath (q .permit)) ps p q j))))
 
 -- and only such terms
 pub order-known : (ps : List Permission) (fs : List Fact) (u : Term) → Member u (inOrder ps fs) → Known ps u
-unfolding inOrder pathOf
+unfolding inOrder paths pathOf
 order-known ps fs u i =
     ⊎-elim
     (λ j. let (v, k, e) = map-member var variables u j in subst (Known ps) (sym e) k)
     (λ j.
     ⊎-elim
-    (λ k. let (p, l, e) = map-member pathOf ps u k in subst (Known ps) (sym e) (entry-listed ps p l))
+    (λ k.
+    let (p, l, e) = map-member pathOf (paths ps) u k in
+    let (j, q) = keep-member (λ q. isPath (q .permit)) ps p l in
+    subst (Known ps) (sym e) (entry-listed ps p j q))
     (λ k.
     ⊎-elim
     (λ l. let (_, _, e) = map-member num (rising (numbers (termsOf fs))) u l in subst (Known ps) (sym e) tt)
     (λ e. subst (Known ps) (sym e) tt)
     (head-or k))
-    (append-member (map pathOf ps) _ u j))
+    (append-member (map pathOf (paths ps)) _ u j))
     (append-member (map var variables) _ u i)
 
 -- DROPPING, where nothing is renamed

@@ -9,7 +9,7 @@ use Rattle.rules.specs.Base.{any, first, mapOption}
 use Rattle.rules.specs.Limits.{most-bound}
 use Rattle.rules.specs.Answers.{Verdict, accepted, refused, unbounded, boundPassed}
 use Rattle.rules.specs.Syntax.{Stmt, Row, Program, noRow}
-use Rattle.rules.specs.Syntax.{set, assign, compute, new, call, return, assert, release, simple, if, else, join, loop, again, end}
+use Rattle.rules.specs.Syntax.{set, assign, compute, new, call, return, assert, release, openChain, shutChain, simple, if, else, join, loop, again, end}
 
 -- BLOCKS
 
@@ -34,6 +34,8 @@ called (simple p) =
       | new x c ↦ none
       | assert φ ↦ none
       | release φ ↦ none
+      | openChain y z f ↦ none
+      | shutChain z f ↦ none
     ]
 called (return x) = none
 called (if n a b) = none

@@ -8,7 +8,7 @@ use Rattle.rules.specs.Answers.{accepted}
 use Rattle.rules.specs.Items.{Item}
 use Rattle.rules.specs.Reading.{readText, program}
 use Rattle.rules.specs.Calls.{Result, checkText, runText, trialText, wholeHeap, outcomeResult, refusedResult}
-use Rattle.rules.specs.Runs.{Run, FrameKept, HalvesKept, outcome}
+use Rattle.rules.specs.Runs.{Run, FrameKept, HalvesKept, ChainsEnd, ChainsHanded, outcome}
 
 -- "run .. returns number 0, 21, 22 or 23"; of 27, "an accepted script may end so as well"; "What an accepted script can't stop on now
 -- includes a false invariant."
@@ -20,12 +20,15 @@ abbrev pub AcceptedNeverStuck : Type 0
 AcceptedNeverStuck = (t : List ℕ) → checkText t ≡ (0, 0) → (k : ℕ) → NotStuck (runText t k .number)
 
 -- a text that was read as these items: its run with k allowed steps. The answer r is what this run does (number, line, count of
--- steps, values), "each `call` step done in it" keeps what it was not handed whole, and no location ever has more than two halves.
+-- steps, values), "each `call` step done in it" keeps what it was not handed whole, no location ever has more than two halves, and whoever holds a
+-- chain, or is handed one, is at a list of its own that ends in null.
 pub record KeepsFrame (r : Result) (items : List Item) (k : ℕ) : Type 0 where
   pub run : Run wholeHeap (program items) k
   pub answered : r ≡ outcomeResult (outcome wholeHeap (program items) run)
   pub kept : FrameKept wholeHeap (program items) run
   pub halves : HalvesKept wholeHeap (program items) run
+  pub chains : ChainsEnd wholeHeap (program items) run
+  pub handed : ChainsHanded wholeHeap (program items) run
 
 -- Second half, of what trial answers for each text that the reader takes, accepted or not
 abbrev pub CallsKeepFrame : Type 0

@@ -1,4 +1,4 @@
--- The twenty-two kinds of line: word, operands, and where each may stand. A kind of line is a row of this table.
+-- The twenty-four kinds of line: word, operands, and where each may stand. A kind of line is a row of this table.
 use mathlib.Core.Path.{_≡_}
 use mathlib.Core.Bool.{Bool, true, false, cond, _&&_, _||_, Bool·beq}
 use mathlib.Core.List.{List, [], _∷_, map}
@@ -15,7 +15,7 @@ use Rattle.rules.specs.Text.{clean, isName, isExpr, isFormula, isConditi
 
 -- the lines of a block after its `var` lines
 pub data Statement : Type 0 where
-  Set Let New Call Return Assert Release If Else Join End Add Sub Loop Again : Statement
+  Set Let New Call Return Assert Release If Else Join End Add Sub Loop Again Open Shut : Statement
 
 pub data Kind : Type 0 where
   Class Field Method Requires Ensures Main Var : Kind
@@ -71,7 +71,8 @@ shaped w os t = record { word = w; operands = os; tail = t }
 
 -- "Statements: `set x f y`, `let x e`, `new x C`, `call x y m z`, `return x` .., `assert` formula, `release` formula, and `if eq e e`
 -- or `if ne e e` .. `else` .. `join` formula." After `end`, see `Places`. Document 02's are numbered last: "New lines `add x y z` and
--- `sub x y z`"; "`loop` takes a condition atom (`eq` or `ne`) and then the atoms of an invariant, at most 8; `again` closes it."
+-- `sub x y z`"; "`loop` takes a condition atom (`eq` or `ne`) and then the atoms of an invariant, at most 8; `again` closes it.";
+-- W9: "`open y x f`", "`shut x f`".
 unfoldable pub shape : Statement → Shape
 shape Set = shaped "set" (variable read ∷ member field ∷ variable read ∷ []) nothing
 shape Let = shaped "let" (variable assigned ∷ expression ∷ []) nothing
@@ -88,9 +89,12 @@ shape Add = shaped "add" (variable assigned ∷ variable read ∷ variable read 
 shape Sub = shaped "sub" (variable assigned ∷ variable read ∷ variable read ∷ []) nothing
 shape Loop = shaped "loop" [] both
 shape Again = shaped "again" [] nothing
+shape Open = shaped "open" (variable assigned ∷ variable read ∷ member field ∷ []) nothing
+shape Shut = shaped "shut" (variable read ∷ member field ∷ []) nothing
 
 abbrev pub statements : List Statement
-statements = Set ∷ Let ∷ New ∷ Call ∷ Return ∷ Assert ∷ Release ∷ If ∷ Else ∷ Join ∷ End ∷ Add ∷ Sub ∷ Loop ∷ Again ∷ []
+statements =
+    Set ∷ Let ∷ New ∷ Call ∷ Return ∷ Assert ∷ Release ∷ If ∷ Else ∷ Join ∷ End ∷ Add ∷ Sub ∷ Loop ∷ Again ∷ Open ∷ Shut ∷ []
 
 abbrev pub kinds : List Kind
 kinds = Class ∷ Field ∷ Method ∷ Requires ∷ Ensures ∷ Main ∷ Var ∷ map statement statements
@@ -162,11 +166,17 @@ loop-kind = 21
 abbrev pub again-kind : ℕ
 again-kind = 22
 
+abbrev pub open-kind : ℕ
+open-kind = 23
+
+abbrev pub shut-kind : ℕ
+shut-kind = 24
+
 abbrev pub first-statement : ℕ
 first-statement = set-kind
 
 abbrev pub last-kind : ℕ
-last-kind = again-kind
+last-kind = shut-kind
 
 abbrev pub IsKindNumber : ℕ → Type 0
 IsKindNumber n = (1 ≤ n) × (n ≤ last-kind)
@@ -190,6 +200,8 @@ statementNumber Add = add-kind
 statementNumber Sub = sub-kind
 statementNumber Loop = loop-kind
 statementNumber Again = again-kind
+statementNumber Open = open-kind
+statementNumber Shut = shut-kind
 
 unfoldable pub kindNumber : Kind → ℕ
 kindNumber Class = class-kind

@@ -6,10 +6,10 @@ use Rattle.rules.specs.Base.{Name, Try, ok, _>>=_, _>>_, check, is}
 use Rattle.rules.specs.Answers.{Refusal, Verdict, accepted, atLine, then, undeclared, wrongType, wrongTarget}
 use Rattle.rules.specs.Syntax as Syntax
 use Rattle.rules.specs.Syntax.{Expr, Atom, Formula, Operation, Stmt, num, null, var, path, own, cmp, sum, difference}
-use Rattle.rules.specs.Syntax.{set, assign, compute, new, call, return, assert, release, simple, if, else, join, loop, again, end}
+use Rattle.rules.specs.Syntax.{set, assign, compute, new, call, return, assert, release, openChain, shutChain, simple, if, else, join, loop, again, end}
 use Rattle.rules.specs.Text.{exprOf, relOf, formulaOf}
 use Rattle.rules.specs.Grammar.{Kind, Statement, Line, statement}
-use Rattle.rules.specs.Grammar.{Class, Field, Method, Requires, Ensures, Main, Var, Set, Let, New, Call, Return, Assert, Release, If, Else, Join, End, Add, Sub, Loop, Again}
+use Rattle.rules.specs.Grammar.{Class, Field, Method, Requires, Ensures, Main, Var, Set, Let, New, Call, Return, Assert, Release, If, Else, Join, End, Add, Sub, Loop, Again, Open, Shut}
 use Rattle.rules.specs.Scope.{Declarations, Variable, Scope, operand, atomsOf, visible, scopeAfter}
 use Rattle.rules.specs.Names.{variableNumber, variableType, fieldNumber, classNumber, methodNumber, allKnown, allTyped, allAssignable}
 
@@ -71,6 +71,10 @@ module _ (Γ : Declarations) (vs : List Variable) where
       loop (relOf (operand l 0)) (resolveExpr (exprOf (operand l 1))) (resolveExpr (exprOf (operand l 2)))
       (resolveAtoms (drop 3 (atomsOf l)))
 
+  unfoldable pub resolveOpen : Line → Stmt
+  resolveOpen l =
+      simple (openChain (variableNumber vs (operand l 0)) (variableNumber vs (operand l 1)) (fieldNumber Γ (operand l 2)))
+
   unfoldable pub resolveStatement : Statement → Line → Stmt
   resolveStatement Set l = resolveSet l
   resolveStatement Let l = simple (assign (variableNumber vs (operand l 0)) (resolveExpr (exprOf (operand l 1))))
@@ -87,6 +91,8 @@ module _ (Γ : Declarations) (vs : List Variable) where
   resolveStatement Sub l = resolveCompute difference l
   resolveStatement Loop l = resolveLoop l
   resolveStatement Again l = again
+  resolveStatement Open l = resolveOpen l
+  resolveStatement Shut l = simple (shutChain (variableNumber vs (operand l 0)) (fieldNumber Γ (operand l 1)))
 
   unfoldable pub itemOf : Kind → Line → Item
   itemOf Class l = aClass
@@ -116,5 +122,5 @@ module _ (Γ : Declarations) where
 
 -- Everything above computes where this unfolds.
 unfoldable pub opened : Unit {0}
-unfolding resolveExpr resolveAtom resolveAtoms resolveFormula resolveField resolveSet resolveCompute resolveCall resolveIf resolveLoop resolveStatement itemOf resolveLine resolveLines
+unfolding resolveExpr resolveAtom resolveAtoms resolveFormula resolveField resolveSet resolveCompute resolveCall resolveIf resolveLoop resolveOpen resolveStatement itemOf resolveLine resolveLines
 opened = tt

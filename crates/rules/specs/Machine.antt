@@ -8,7 +8,7 @@ use Rattle.rules.specs.Base.{Try, ok, no, _>>=_, _>>_, check, update}
 use Rattle.rules.specs.Limits.{most-locals, most-frames, values-shown}
 use Rattle.rules.specs.Answers.{Stop, Ending, finished, stepsTaken, stopped, heapFull, framesFull, permissionMissing, nullFollowed, formulaFalse, overflow}
 use Rattle.rules.specs.Syntax.{Rel, Permit, Expr, Formula, Operation, Simple, Stmt, Row, Field, Method, Program, noRow, rowNumbered, methodNumbered, first-local, result-variable, words, sign, offset}
-use Rattle.rules.specs.Syntax.{eq, ne, num, null, var, path, acc, read, own, cmp, sum, difference, set, assign, compute, new, call, return, assert, release, simple, if, else, join, loop, again, end}
+use Rattle.rules.specs.Syntax.{eq, ne, num, null, var, path, acc, read, chain, own, cmp, sum, difference, set, assign, compute, new, call, return, assert, release, openChain, shutChain, simple, if, else, join, loop, again, end}
 
 -- HEAP AND FRAMES
 
@@ -108,20 +108,38 @@ unfoldable pub compared : Rel → ℕ → ℕ → Bool
 compared eq v w = eqb v w
 compared ne v w = not (eqb v w)
 
+-- W9: going by f from object o: "holds if going by f from x reaches null and every location passed is held whole; its footprint is
+-- those. The walk stops with 26 at a location that it has passed itself (a ring), and with 24 at one not held whole or taken by an
+-- earlier atom." It passes at most n locations, n the count of halves that the frame holds: one more would not be held whole.
+unfoldable pub walk : Heap → Frame → List Location → ℕ → ℕ → ℕ → List Location → Try Stop (List Location)
+walk h F taken f zero o passed = cond (eqb o 0) (ok passed) (no permissionMissing)
+walk h F taken f (suc n) o passed =
+    let p : Location = record { object = o; field = f } in
+    let r : Try Stop (List Location) =
+    check (eqb (halves passed p) 0) formulaFalse
+    >> (check (leb 2 (halves (F .held) p) && eqb (halves taken p) 0) permissionMissing
+    >> walk h F taken f n (valueAt h o f) (p ∷ passed)) in
+    cond (eqb o 0) (ok passed) r
+
+-- both halves of each location of the walk
+unfoldable pub takeWalk : Heap → Frame → ℕ → ℕ → List Location → Try Stop (List Location)
+takeWalk h F f o taken = walk h F taken f (length (F .held)) o [] >>= λ ws. ok (ws ++ (ws ++ taken))
+
 -- W8: "`acc` is both" halves, `read` one
 unfoldable pub takeHalves : Frame → ℕ → ℕ → ℕ → List Location → Try Stop (List Location)
 takeHalves F n x f taken = locate F taken n x f >>= λ p. ok (replicate n p ++ taken)
 
 -- what an atom takes, beside what is taken
-unfoldable pub takeShare : Frame → Permit → ℕ → ℕ → List Location → Try Stop (List Location)
-takeShare F acc x f taken = takeHalves F 2 x f taken
-takeShare F read x f taken = takeHalves F 1 x f taken
+unfoldable pub takeShare : Heap → Frame → Permit → ℕ → ℕ → List Location → Try Stop (List Location)
+takeShare h F acc x f taken = takeHalves F 2 x f taken
+takeShare h F read x f taken = takeHalves F 1 x f taken
+takeShare h F chain x f taken = takeWalk h F f (valueOf F x) taken
 
 -- "Formula atoms go in order, of two sides the left first: `acc` of a null is 25, of a location not in A or already taken in this
 -- formula 24; reading likewise, over the whole A; a false `eq` or `ne` is 26." The result is what was taken, the last first.
 unfoldable pub takeFrom : Heap → Frame → Formula ℕ → List Location → Try Stop (List Location)
 takeFrom h F [] taken = ok taken
-takeFrom h F (own k x f ∷ φ) taken = takeShare F k x f taken >>= λ A. takeFrom h F φ A
+takeFrom h F (own k x f ∷ φ) taken = takeShare h F k x f taken >>= λ A. takeFrom h F φ A
 takeFrom h F (cmp n a b ∷ φ) taken = do
   v ← value h F a
   w ← value h F b
@@ -326,6 +344,8 @@ targetOf (simple p) =
       | new x c ↦ 0
       | assert φ ↦ 0
       | release φ ↦ 0
+      | openChain y z f ↦ 0
+      | shutChain z f ↦ 0
     ]
 targetOf (return x) = 0
 targetOf (if n a b) = 0
@@ -356,6 +376,22 @@ unfoldable pub releaseStep : Formula ℕ → Config → Try Stop Config
 releaseStep φ m =
     footprint (m .heap) (m .frame) φ >>= λ A.
     ok (withFrame m (advance (holding (without A (m .frame .held)) (m .frame))))
+
+-- W9: "The machine tests the same at these lines, in that order; x null is 25."
+unfoldable pub openStep : ℕ → ℕ → ℕ → Config → Try Stop Config
+openStep y x f m = do
+  let o : ℕ = valueOf (m .frame) x
+  check (not (eqb o 0)) nullFollowed
+  A ← takeWalk (m .heap) (m .frame) f o []
+  ok (withFrame m (advance (bind y (valueAt (m .heap) o f) (m .frame))))
+
+-- the value of `x.f` is read, the chain taken from there, then `x.f` whole
+unfoldable pub shutStep : ℕ → ℕ → Config → Try Stop Config
+shutStep x f m = do
+  v ← value (m .heap) (m .frame) (path x f)
+  A ← takeWalk (m .heap) (m .frame) f v []
+  p ← locate (m .frame) A 2 x f
+  ok (withFrame m (advance (m .frame)))
 
 -- STEPS AND RUNS
 
@@ -413,6 +449,8 @@ module _ (room : Room) (P : Program) where
   simpleStep (call x y n z) m = callStep y (methodNumbered P n) z m
   simpleStep (assert φ) m = assertStep φ m
   simpleStep (release φ) m = releaseStep φ m
+  simpleStep (openChain y x f) m = openStep y x f m
+  simpleStep (shutChain x f) m = shutStep x f m
 
   unfoldable pub stepAt : Stmt → Config → Step
   stepAt (simple p) m = took (simpleStep p m)
@@ -442,5 +480,5 @@ runProgram room P k = run room P k 0 (start P)
 
 -- Everything above computes where this unfolds.
 unfoldable pub opened : Unit {0}
-unfolding eqLocation halves lessOne without valueIn object valueAt storeIn store fieldsIn valueOf locate value compared takeHalves takeShare takeFrom footprint jump advance bind holding withFrame depthAfter closes seek closing openAfter openAt loopOf choose ifStep elseStep loopStep againStep stored setStep assignStep raised inRange computed computeStep newCell wholeOf grown newStep entryValues callFrame entered callStep targetOf statementOf returned assertStep releaseStep took endStep returnStep mainFrame ends goOn simpleStep stepAt step run start runProgram
+unfolding eqLocation halves lessOne without valueIn object valueAt storeIn store fieldsIn valueOf locate value compared walk takeWalk takeHalves takeShare takeFrom footprint jump advance bind holding withFrame depthAfter closes seek closing openAfter openAt loopOf choose ifStep elseStep loopStep againStep stored setStep assignStep raised inRange computed computeStep newCell wholeOf grown newStep entryValues callFrame entered callStep targetOf statementOf returned assertStep releaseStep openStep shutStep took endStep returnStep mainFrame ends goOn simpleStep stepAt step run start runProgram
 opened = tt

@@ -7,9 +7,9 @@ use lib.Dec.{eqb, leb, ltb}
 use lib.ListN.{getD}
 use Rattle.rules.specs.Base.{Name, withDefault, bytes, is, eqName, any, all, first, index}
 use Rattle.rules.specs.Limits.{most-locals}
-use Rattle.rules.specs.Syntax.{Expr, Atom, first-local, num, null, var, path, own, cmp}
+use Rattle.rules.specs.Syntax.{Expr, Atom, first-local, isPath, num, null, var, path, own, cmp}
 use Rattle.rules.specs.Text.{reserved, exprOf, formulaOf}
-use Rattle.rules.specs.Grammar.{Operand, Line, isKind, statement, Set, Let, New, Call, Return, Add, Sub}
+use Rattle.rules.specs.Grammar.{Operand, Line, isKind, statement, Set, Let, New, Call, Return, Add, Sub, Open, Shut}
 use Rattle.rules.specs.Grammar.{read, assigned, field, method, new, typeName, className, variable, member, expression}
 use Rattle.rules.specs.Scope.{FieldDeclaration, MethodDeclaration, Declarations, Variable, Scope, operand, declaredIn, slots, atomsOf}
 
@@ -135,8 +135,12 @@ module _ (Γ : Declarations) (vs : List Variable) where
   exprType (var x) = some (variableType vs x)
   exprType (path x f) = some (fieldType Γ (variableType vs x) f)
 
+  -- W9: "f a field with x's class as its type (else 7)"
+  unfoldable pub chains : Name → Name → Bool
+  chains x f = eqName (fieldType Γ (variableType vs x) f) (variableType vs x)
+
   unfoldable pub atomAgrees : Atom Name → Bool
-  atomAgrees (own k x f) = true
+  atomAgrees (own k x f) = isPath k || chains x f
   atomAgrees (cmp n a b) = agree (exprType a) (exprType b)
 
   unfoldable pub callAgrees : Line → MethodDeclaration → Bool
@@ -157,7 +161,9 @@ module _ (Γ : Declarations) (vs : List Variable) where
       (cond (isKind (statement Call) (l .kind)) (callAgrees l (methodOfClass Γ (variableType vs (operand l 1)) (operand l 2)))
       (cond (isKind (statement Return) (l .kind)) (eqName x (variableType vs (bytes "result")))
       (cond (isKind (statement Add) (l .kind) || isKind (statement Sub) (l .kind)) (allInt l)
-      true)))))
+      (cond (isKind (statement Open) (l .kind)) (eqName x (variableType vs (operand l 1)) && chains (operand l 1) (operand l 2))
+      (cond (isKind (statement Shut) (l .kind)) (chains (operand l 0) (operand l 1))
+      true)))))))
 
   unfoldable pub allTyped : Line → Bool
   allTyped l =
@@ -182,10 +188,15 @@ module _ (vs : List Variable) where
       not (isKind (statement Call) (l .kind))
       || (not (eqb x (variableNumber vs (operand l 1))) && not (eqb x (variableNumber vs (operand l 3))))
 
+  -- W9: "Number 9 covers `open`: y may not be `this`, w, `result` or x."
+  unfoldable pub openApart : Line → Bool
+  openApart l =
+      not (isKind (statement Open) (l .kind)) || not (eqb (variableNumber vs (operand l 0)) (variableNumber vs (operand l 1)))
+
   unfoldable pub allAssignable : Line → Bool
-  allAssignable l = all (λ a. mayBeAssigned (a .operand) (a .name)) (slots l) && callApart l
+  allAssignable l = all (λ a. mayBeAssigned (a .operand) (a .name)) (slots l) && (callApart l && openApart l)
 
 -- Everything above computes where this unfolds.
 unfoldable pub opened : Unit {0}
-unfolding agree isLocal classNumber isClass isType isFieldOf isMethodOf fieldType fieldNumber methodNumber methodOfClass inScope lookUp variableNumber variableType isInt knownField knownMethod knownExpr known allKnown ofClassIn ofClass exprType atomAgrees callAgrees allInt sidesAgree allTyped mayBeAssigned callApart allAssignable
+unfolding agree isLocal classNumber isClass isType isFieldOf isMethodOf fieldType fieldNumber methodNumber methodOfClass inScope lookUp variableNumber variableType isInt knownField knownMethod knownExpr known allKnown ofClassIn ofClass exprType chains atomAgrees callAgrees allInt sidesAgree allTyped mayBeAssigned callApart openApart allAssignable
 opened = tt

@@ -8,7 +8,7 @@ use Rattle.rules.specs.Base.{any}
 use Rattle.rules.specs.Limits.{most-bytes}
 use Rattle.rules.specs.Answers.{Verdict, accepted, refused, then, textTooLong, unframed}
 use Rattle.rules.specs.Syntax.{Expr, Formula, Stmt, Method, Program}
-use Rattle.rules.specs.Syntax.{num, null, var, path, own, cmp, simple, return, if, else, join, loop, again, end}
+use Rattle.rules.specs.Syntax.{num, null, var, path, isPath, own, cmp, simple, return, if, else, join, loop, again, end}
 use Rattle.rules.specs.Text.{lines}
 use Rattle.rules.specs.Places.{firstPlace, scanLines}
 use Rattle.rules.specs.Scope.{declarations, firstScope}
@@ -35,10 +35,11 @@ framedExpr before null = true
 framedExpr before (var x) = true
 framedExpr before (path x f) = any (λ a. eqb (a .variable) x && eqb (a .field) f) before
 
--- "requires, ensures or join reads `x.f` with no `acc x f` before it in the line"
+-- "requires, ensures or join reads `x.f` with no `acc x f` before it in the line"; W8: "`read x f` serves as `acc x f` does"; `chain x f`
+-- does not, since a chain is no listed path
 unfoldable pub framed : List Access → Formula ℕ → Bool
 framed before [] = true
-framed before (own k x f ∷ φ) = framed (record { variable = x; field = f } ∷ before) φ
+framed before (own k x f ∷ φ) = framed (cond (isPath k) (record { variable = x; field = f } ∷ before) before) φ
 framed before (cmp n a b ∷ φ) = let r : Bool = framed before φ in framedExpr before a && (framedExpr before b && r)
 
 -- of a loop, "The invariant, and the condition after it, read only paths that the invariant holds; number 10 covers this line."

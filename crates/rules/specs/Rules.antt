@@ -5,11 +5,11 @@ use mathlib.Core.Option.{Option, none, some}
 use Prim.Native.Nat.{ℕ}
 use lib.Dec.{eqb}
 use lib.ListN.{getD, drop}
-use Rattle.rules.specs.Base.{Try, ok, _>>=_, _>>_, check, orElse}
+use Rattle.rules.specs.Base.{Try, ok, _>>=_, _>>_, check, orElse, first}
 use Rattle.rules.specs.Answers.{Refusal, Verdict, accepted, refused, atLine, then, malformed, textEnds, noPermission, notShown}
 use Rattle.rules.specs.Syntax.{Rel, Atom, Formula, Simple, Stmt, Row, Field, Method, Program, methodNumbered, same, this-variable, parameter, result-variable}
-use Rattle.rules.specs.Syntax.{eq, ne, num, null, var, path, acc, own, cmp, set, assign, compute, new, call, return, assert, release, simple, if, else, join, loop, again, end}
-use Rattle.rules.specs.State.{Term, State, empty, entry, pathOf, equalIn, giving, resolve, holdsIn, split, show, dropPaths, remainder, standIn, removedTerm, removeTo, remove, addPermission, addFact, add}
+use Rattle.rules.specs.Syntax.{eq, ne, num, null, var, path, acc, chain, own, cmp, set, assign, compute, new, call, return, assert, release, openChain, shutChain, simple, if, else, join, loop, again, end}
+use Rattle.rules.specs.State.{Term, State, empty, entry, pathOf, equalIn, names, giving, resolve, holdsIn, split, takeOwn, show, dropPaths, remainder, standIn, removedTerm, removeTo, remove, addPermission, addFact, add}
 
 -- y, z and x for `this`, w and `result`
 unfoldable pub actual : ℕ → ℕ → ℕ → ℕ → ℕ
@@ -59,7 +59,7 @@ newRule x fs s = addFields x fs (remove x s) >>= λ s. addFact ne (var x) null s
 -- "`set`: `acc x f` shown by a path p; drop facts that name p; add p = y." With W3, "the old value of the path counts as dropped".
 unfoldable pub setRule : ℕ → ℕ → ℕ → State → Try Refusal State
 setRule x f y s = do
-  c ← orElse (split (giving (equalIn s) acc x f) (s .permissions)) noPermission
+  c ← orElse (split (giving (equalIn s) acc (var x) f) (s .permissions)) noPermission
   addFact eq (pathOf (c .taken)) (var y) (dropPaths (c .taken ∷ []) (s .permissions) s)
 
 -- "`call`: show y ≠ null, then requires with y, z for `this`, w. Take the remainder, remove x, add ensures with x for `result`."
@@ -68,6 +68,24 @@ callRule x y M z s = do
   check (holdsIn (equalIn s) s ne (var y) null) notShown
   r ← show s (map (substAtom (actual y z x)) (M .requires))
   add (map (substAtom (actual y z x)) (M .ensures)) (remove x (remainder s r))
+
+-- W9: "`open y x f` takes x ≠ null and `chain x f`; y becomes `x.f`, and the state gets `x.f`, `x.f` = y and the chain of y."
+unfoldable pub openRule : ℕ → ℕ → ℕ → State → Try Refusal State
+openRule y x f s = do
+  check (holdsIn (equalIn s) s ne (var x) null) notShown
+  r ← takeOwn (equalIn s) chain (var x) f (s .permissions)
+  s₁ ← addPermission (entry acc x f) (remove y (remainder s r))
+  s₂ ← addFact eq (path x f) (var y) s₁
+  addPermission (entry chain y f) s₂
+
+-- W9: "`shut x f` takes a chain of the value of `x.f`, shown by a chain, by the same f, of a variable ~ to `x.f` or else by `x.f` ~
+-- null, then the whole permission to `x.f`, and gives the chain of x." "What these lines fail to show is 12, an unlisted `x.f` too"
+unfoldable pub shutRule : ℕ → ℕ → State → Try Refusal State
+shutRule x f s = do
+  p ← orElse (first (names (equalIn s) x f) (s .permissions)) noPermission
+  r ← takeOwn (equalIn s) chain (pathOf p) f (s .permissions)
+  r′ ← takeOwn (equalIn s) acc (var x) f r
+  addPermission (entry chain x f) (remainder s r′)
 
 unfoldable pub opposite : Rel → Rel
 opposite eq = ne
@@ -155,6 +173,8 @@ module _ (P : Program) where
   rule (call x y m z) s = callRule x y (methodNumbered P m) z s
   rule (assert φ) s = show s φ >>= λ r. ok s
   rule (release φ) s = show s φ >>= λ r. ok (remainder s r)
+  rule (openChain y x f) s = openRule y x f s
+  rule (shutChain x f) s = shutRule x f s
 
   -- one line of a block with the ensures φ, and then k; os: the branches and loops that are open, innermost first
   unfoldable pub checkRow : Stmt → ℕ → Formula ℕ → Following → End → List Open → Verdict (Unit {0})
@@ -190,5 +210,5 @@ module _ (P : Program) where
 
 -- Everything above computes where this unfolds.
 unfoldable pub opened : Unit {0}
-unfolding actual substTerm substAtom addEqual assignRule addFields initial addInitial newRule setRule callRule opposite ifRule returnRule showEnd joinRule loopRule reached elseRow joinRow againRow endRow rule checkRow checkRows checkFrom checkMethod checkBlocks checkProgram
+unfolding actual substTerm substAtom addEqual assignRule addFields initial addInitial newRule setRule callRule openRule shutRule opposite ifRule returnRule showEnd joinRule loopRule reached elseRow joinRow againRow endRow rule checkRow checkRows checkFrom checkMethod checkBlocks checkProgram
 opened = tt

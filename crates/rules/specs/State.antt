@@ -8,12 +8,12 @@ use lib.ListN.{length}
 use Rattle.rules.specs.Base.{Try, ok, _>>=_, _>>_, check, orElse, bindOption, any, keep, first, mapOption}
 use Rattle.rules.specs.Limits.{most-permissions, most-facts}
 use Rattle.rules.specs.Answers.{Refusal, unresolved, noPermission, notShown, stateFull}
-use Rattle.rules.specs.Syntax.{Rel, Permit, Expr, Formula, offset, same, eq, ne, num, null, var, path, acc, read, own, cmp}
+use Rattle.rules.specs.Syntax.{Rel, Permit, Expr, Formula, offset, same, eq, ne, num, null, var, path, acc, read, chain, own, cmp, isPath}
 
 abbrev pub Term : Type 0
 Term = Expr ℕ
 
--- an entry of a state's list: the permission to `x.f`, or half of it
+-- an entry of a state's list: the permission to `x.f`, or half of it; or the chain of x by f, which is no path
 pub record Permission : Type 0 where
   pub permit : Permit
   pub variable : ℕ
@@ -29,7 +29,7 @@ pub record Fact : Type 0 where
   pub right : Term
 
 -- "A state is an ordered list of permissions `x.f` and a list of equalities and inequalities over variables, constants and
--- listed paths."
+-- listed paths." W9: "A chain counts as one of the 64 permissions."
 pub record State : Type 0 where
   pub permissions : List Permission
   pub facts : List Fact
@@ -67,8 +67,11 @@ equalIn s = equalBy (representative (s .facts))
 unfoldable pub exceed : Permit → Permit → Bool
 exceed acc acc = true
 exceed acc read = true
+exceed acc chain = false
 exceed read acc = true
 exceed read read = false
+exceed read chain = false
+exceed chain k = false
 
 -- the numbers among the terms
 unfoldable pub numbers : List Term → List ℕ
@@ -88,9 +91,13 @@ isNe ne = true
 
 module _ (_~_ : Equality) where
   infixl 40 _~_
+  -- an entry by f of a variable ~ t
+  unfoldable pub entryOf : Term → ℕ → Permission → Bool
+  entryOf t f p = eqb (p .field) f && (var (p .variable) ~ t)
+
   -- a listed `x.f` with x ~ y
   unfoldable pub names : ℕ → ℕ → Permission → Bool
-  names y f p = eqb (p .field) f && (var (p .variable) ~ var y)
+  names y f p = isPath (p .permit) && entryOf (var y) f p
 
   -- "A path `y.f` resolves to the first listed `x.f` with x ~ y; other expressions to themselves."
   unfoldable pub resolve : List Permission → Term → Try Refusal Term
@@ -115,7 +122,7 @@ module _ (_~_ : Equality) where
 
   -- "(c) one is ~ null and the other ~ x with some `x.f` listed": t is the one
   unfoldable pub nullAndObject : List Permission → Term → Term → Bool
-  nullAndObject ps t u = (null ~ t) && any (λ p. var (p .variable) ~ u) ps
+  nullAndObject ps t u = (null ~ t) && any (λ p. isPath (p .permit) && (var (p .variable) ~ u)) ps
 
   -- "(d) they are ~ x and ~ y with `x.f` and `y.f` two entries of the list for one f"; W8: "Way (d) .. needs an `acc` among the two"
   unfoldable pub differ : Permission → Permission → Term → Term → Bool
@@ -150,30 +157,41 @@ split t (p ∷ ps) =
     ]
 
 -- what an atom leaves of the entry that shows it. W8: "`acc` is shown by an unconsumed `acc` alone"; "`read` is shown by the first
--- listed, unconsumed `acc` or `read`; taken from an `acc` it leaves a `read` of that path"
+-- listed, unconsumed `acc` or `read`; taken from an `acc` it leaves a `read` of that path". W9: a chain "by an unconsumed chain"
 unfoldable pub leaves : Permit → Permit → Option (List Permit)
 leaves acc acc = some []
 leaves acc read = none
+leaves acc chain = none
 leaves read acc = some (read ∷ [])
 leaves read read = some []
+leaves read chain = none
+leaves chain acc = none
+leaves chain read = none
+leaves chain chain = some []
 
 -- the same path with another permit
 unfoldable pub withPermit : Permission → Permit → Permission
 withPermit p k = entry k (p .variable) (p .field)
 
--- what the atom `k y f` leaves of an entry, if that shows the atom
-unfoldable pub giving : Equality → Permit → ℕ → ℕ → Permission → Option (List Permission)
-giving _~_ k y f p =
-    cond (names _~_ y f p) (bindOption (leaves k (p .permit)) (λ ks. some (map (withPermit p) ks))) none
+-- what the atom k by f of t leaves of an entry, if that shows the atom
+unfoldable pub giving : Equality → Permit → Term → ℕ → Permission → Option (List Permission)
+giving _~_ k t f p =
+    cond (entryOf _~_ t f p) (bindOption (leaves k (p .permit)) (λ ks. some (map (withPermit p) ks))) none
 
--- "`acc y f` by the first listed, not yet consumed `x.f` with x ~ y, which it consumes", and so `read`. kept: the entries not yet consumed
-unfoldable pub takeOwn : Equality → Permit → ℕ → ℕ → List Permission → Try Refusal (List Permission)
-takeOwn _~_ k y f kept = orElse (split (giving _~_ k y f) kept) noPermission >>= λ c. ok (c .list)
+-- the entries that are left. W9: a chain is shown "else by x ~ null", which takes none
+unfoldable pub shownBy : Bool → List Permission → Option Split → Try Refusal (List Permission)
+shownBy atNull kept (some c) = ok (c .list)
+shownBy atNull kept none = check atNull noPermission >> ok kept
+
+-- "`acc y f` by the first listed, not yet consumed `x.f` with x ~ y, which it consumes", and so `read`; W9: "The checker shows it by an
+-- unconsumed chain, by the same f, of an equal variable, else by x ~ null." kept: the entries not yet consumed
+unfoldable pub takeOwn : Equality → Permit → Term → ℕ → List Permission → Try Refusal (List Permission)
+takeOwn _~_ k t f kept = shownBy (not (isPath k) && _~_ null t) kept (split (giving _~_ k t f) kept)
 
 -- "`eq` if both sides resolve and are ~; `ne` if both resolve and (a) .. (d)"; "Atoms go in order; `eq` and `ne` read the whole state."
 unfoldable pub showFrom : Equality → State → Formula ℕ → List Permission → Try Refusal (List Permission)
 showFrom _~_ s [] kept = ok kept
-showFrom _~_ s (own k y f ∷ φ) kept = takeOwn _~_ k y f kept >>= λ kept. showFrom _~_ s φ kept
+showFrom _~_ s (own k y f ∷ φ) kept = takeOwn _~_ k (var y) f kept >>= λ kept. showFrom _~_ s φ kept
 showFrom _~_ s (cmp n a b ∷ φ) kept = do
   t ← resolve _~_ (s .permissions) a
   u ← resolve _~_ (s .permissions) b
@@ -204,9 +222,13 @@ unfoldable pub rising : List ℕ → List ℕ
 rising [] = []
 rising (n ∷ ns) = insert n (rising ns)
 
+-- the entries that are listed paths: chains are not
+unfoldable pub paths : List Permission → List Permission
+paths ps = keep (λ p. isPath (p .permit)) ps
+
 -- "The order is variables as in document 01, listed paths, null, numbers rising." ps: the permissions that are left
 unfoldable pub inOrder : List Permission → List Fact → List Term
-inOrder ps fs = map var variables ++ (map pathOf ps ++ (null ∷ map num (rising (numbers (termsOf fs)))))
+inOrder ps fs = map var variables ++ (map pathOf (paths ps) ++ (null ∷ map num (rising (numbers (termsOf fs)))))
 
 -- is the term left, as it is?
 unfoldable pub isLeft : Renaming → Term → Bool
@@ -241,7 +263,7 @@ renameFacts ρ fs = keep (λ f. not (trivial f)) (mapOption (renameFact ρ) fs)
 
 -- is t the path of an entry, by its very name?
 unfoldable pub lists : List Permission → Term → Bool
-lists ps t = any (λ p. same (pathOf p) t) ps
+lists ps t = any (λ p. same (pathOf p) t) (paths ps)
 
 unfoldable pub withoutPaths : List Permission → Renaming
 withoutPaths gone t = cond (lists gone t) none (some t)
@@ -254,9 +276,9 @@ factsWithout (p ∷ gone) ps s = renameFacts (becomes s (withoutPaths (p ∷ gon
 unfoldable pub dropPaths : List Permission → List Permission → State → State
 dropPaths gone ps s = record { permissions = ps; facts = factsWithout gone ps s }
 
--- the entries of us whose name ps does not list: "but, `set` apart, a name still listed is not dropped"
+-- the paths of us whose name ps does not list: "but, `set` apart, a name still listed is not dropped"
 unfoldable pub unlisted : List Permission → List Permission → List Permission
-unlisted ps us = keep (λ p. not (lists ps (pathOf p))) us
+unlisted ps us = keep (λ p. not (lists ps (pathOf p))) (paths us)
 
 -- "The remainder is the state without consumed paths and without facts that name them": with W3 these paths are dropped. kept: what is
 -- left of the entries. W8: what is left of an `acc` is "a `read` of that path with its facts".
@@ -314,9 +336,10 @@ addFact n t u s =
 unfoldable pub joining : Permit → Permission → Option (List Permission)
 joining acc p = none
 joining read p = some (withPermit p acc ∷ [])
+joining chain p = none
 
 unfoldable pub joins : Equality → ℕ → ℕ → Permission → Option (List Permission)
-joins _~_ x f p = cond (names _~_ x f p) (joining (p .permit) p) none
+joins _~_ x f p = cond (entryOf _~_ (var x) f p) (joining (p .permit) p) none
 
 unfoldable pub addRead : ℕ → ℕ → State → Option Split → Try Refusal State
 addRead x f s none = addPermission (entry read x f) s
@@ -324,6 +347,7 @@ addRead x f s (some c) = ok (record { permissions = c .list; facts = s .facts })
 
 unfoldable pub addOwn : Permit → ℕ → ℕ → State → Try Refusal State
 addOwn acc x f s = addPermission (entry acc x f) s
+addOwn chain x f s = addPermission (entry chain x f) s
 addOwn read x f s = addRead x f s (split (joins (equalIn s) x f) (s .permissions))
 
 -- "Adding a formula lists its permissions and its resolved facts, in order."
@@ -338,5 +362,5 @@ add (cmp n a b ∷ φ) s = do
 
 -- Everything above computes where this unfolds.
 unfoldable pub opened : Unit {0}
-unfolding pathOf linkedBy representative equalBy equalIn exceed numbers termsOf isNe names resolve links listedUnequal differentNumbers nullAndObject differ twoEntries holdsIn split leaves withPermit giving takeOwn showFrom show insert rising inOrder isLeft successor givesWay becomes renameFact trivial renameFacts lists withoutPaths factsWithout dropPaths unlisted remainder renameVariable renameTerm renamePermission renamePermissions standIn removedTerm removeTo remove addPermission addFact joining joins addRead addOwn add
+unfolding pathOf linkedBy representative equalBy equalIn exceed numbers termsOf isNe entryOf names resolve links listedUnequal differentNumbers nullAndObject differ twoEntries holdsIn split leaves withPermit giving shownBy takeOwn showFrom show paths insert rising inOrder isLeft successor givesWay becomes renameFact trivial renameFacts lists withoutPaths factsWithout dropPaths unlisted remainder renameVariable renameTerm renamePermission renamePermissions standIn removedTerm removeTo remove addPermission addFact joining joins addRead addOwn add
 opened = tt

@@ -28,15 +28,23 @@ sign = 2147483648
 unfoldable pub offset : ℕ → ℕ
 offset v = (v + sign) % words
 
--- what an atom claims: `acc x f` the permission to `x.f`, `read x f` half of it
+-- what an atom claims: `acc x f` the permission to `x.f`, `read x f` half of it, `chain x f` those of the walk by f from x
 pub data Permit : Type 0 where
   acc : Permit
   read : Permit
+  chain : Permit
 
--- "An atom is three fields: `acc x f`, `eq e e` or `ne e e`."; W8: "A new atom `read x f` is half a permission"
+-- "An atom is three fields: `acc x f`, `eq e e` or `ne e e`."; W8: "A new atom `read x f` is half a permission"; W9: "The atom
+-- `chain x f`"
 pub data Atom (N : Type 0) : Type 0 where
   own : Permit → N → N → Atom N
   cmp : Rel → Expr N → Expr N → Atom N
+
+-- a path may be read by it: a chain is no path
+unfoldable pub isPath : Permit → Bool
+isPath acc = true
+isPath read = true
+isPath chain = false
 
 -- "A formula is 0 to 8 atoms .., joined by the separating star; 0 atoms means true"
 abbrev pub Formula : Type 0 → Type 0
@@ -61,7 +69,8 @@ pub data Operation : Type 0 where
   sum : Operation
   difference : Operation
 
--- statements that go on to the next line; `assign` is `let`, `compute` is `add` or `sub`
+-- statements that go on to the next line; `assign` is `let`, `compute` is `add` or `sub`; W9: `openChain y x f` is `open`,
+-- `shutChain x f` is `shut`
 pub data Simple : Type 0 where
   set : ℕ → ℕ → ℕ → Simple
   assign : ℕ → Expr ℕ → Simple
@@ -70,6 +79,8 @@ pub data Simple : Type 0 where
   call : ℕ → ℕ → ℕ → ℕ → Simple
   assert : Formula ℕ → Simple
   release : Formula ℕ → Simple
+  openChain : ℕ → ℕ → ℕ → Simple
+  shutChain : ℕ → ℕ → Simple
 
 -- of a `loop` its condition, then its invariant
 pub data Stmt : Type 0 where
@@ -139,5 +150,5 @@ same (path x f) (path y g) = eqb x y && eqb f g
 
 -- Everything above computes where this unfolds.
 unfoldable pub opened : Unit {0}
-unfolding offset rowNumbered methodNumbered same
+unfolding offset isPath rowNumbered methodNumbered same
 opened = tt

@@ -15,7 +15,8 @@ use Rattle.rules.specs.Answers.{Stop, nullFollowed}
 use Rattle.rules.specs.Grammar.{Call, statementNumber}
 use Rattle.rules.specs.Machine.{Frame, Location, Config, took, halves, without, valueOf, footprint, holding, entryValues, callFrame, entered, callStep}
 use Rattle.rules.specs.declared.Machine.{Machine}
-use Rattle.rules.proofs.Sets.{halves-without, footprint-held}
+use Rattle.rules.proofs.Sets.{halves-without}
+use Rattle.rules.proofs.Footprints.{footprint-held}
 use Rattle.tables.specs.Layout.{frame-variables, holders-at, objects-at, frames-at}
 use Rattle.tables.specs.Decode.{byteAt, halfAt, wordAt, yAt, zAt, memberAt, methodPlace, atomsFrom, atomCount, kindAt, methodCount, methodAt, requiresAt, ensuresAt, firstRowAt}
 use Rattle.tables.specs.Stores.{SameTables}
@@ -24,14 +25,16 @@ use Rattle.tables.proofs.Decoding.{tables-same, rows-count-same, kind-same, met
 use Rattle.run_heap.specs.declared.Fault.{Fault}
 use Rattle.run_steps.specs.declared.Turn.{Turn}
 use Rattle.run_heap.specs.Views.{frameAt, variableAt, savedHolder, savedRow, methodOf, halvesAt, cellOf, halvesIn, halvesOf, prepared, nextView, stopOf, frame-holder, frame-row, frame-method}
-use Rattle.run_footprint.specs.Footprints.{marked, takeIn, SharesFit}
+use Rattle.run_footprint.specs.Footprints.{spread, marked, takeIn, SharesFit}
 use Rattle.run_steps.specs.States.{FrameIs, CallerIs, CallersAre, Represents, Follows, Does, CanStep, AtKind}
 use Rattle.run_calls.specs.Calls.{Calling, Admits, called, callHere}
 use Rattle.run_heap.proofs.Reading.{cell-small}
-use Rattle.run_steps.proofs.Seeing.{Sees, Matches, FormulaOk, no-footprint, ok-footprint, atoms-ok}
+use Rattle.run_steps.proofs.Sights.{Sees}
+use Rattle.run_steps.proofs.Seeing.{Matches, FormulaOk, no-footprint, ok-footprint, atoms-ok}
 use Rattle.run_footprint.proofs.Regions.{Only, only-wide, only-tables, variable-kept, value-kept, halves-kept}
 use Rattle.run_footprint.proofs.Handing.{only-marked}
-use Rattle.run_steps.proofs.Keeping.{SameObjects, SameFrame, same-objects, same-frame, halves-of-kept, frame-kept, ensures-kept, callers-kept, heap-kept}
+use Rattle.run_footprint.proofs.Cells.{SameObjects, same-objects}
+use Rattle.run_steps.proofs.Keeping.{SameFrame, same-frame, halves-of-kept, frame-kept, ensures-kept, callers-kept, heap-kept}
 use Rattle.run_steps.proofs.Moves.{sees, readable, follow-stop, follow-stop-in, follow-on}
 use Rattle.run_steps.proofs.Changes.{marks-only, marks-tables, lost, gained, others-kept, heap-marked}
 use Rattle.run_steps.proofs.Steps.{frame-holding}
@@ -103,6 +106,7 @@ module _ {w : List ℕ} {c : Machine} {m : Config} {method : ℕ} {G : Frame} (R
         values = λ x l. N .values x l ∙ ap (λ (i : ℕ). variableAt w i x) b;
         held = λ p. ap (λ (A : List Location). halves A p) (N .held) ∙ S .held p;
         cells = S .cells;
+        most = S .most;
         small = S .small;
         apart = S .apart;
       }
@@ -315,13 +319,14 @@ module _ {w : List ℕ} {c : Machine} {m : Config} (R : Represents w c m) (y z m
       follow-stop-in R Fault.FramesFull _ (after-null n _ ∙ rw (f′, le-ltb (suc (length (m .callers))) most-frames (omega (arith, R .frames)))) call-kept
 
   pub call-fit :
-      (ss : List ℕ) → takeIn (prepared w c method o p) (nextView c) (requiresAt (prepared w c method o p) method) [] ≡ ok ss → SharesFit ss
+      (ss : List ℕ) → takeIn (prepared w c method o p) (nextView c) (requiresAt (prepared w c method o p) method) [] ≡ ok ss →
+      SharesFit (spread (prepared w c method o p) (c .objects) ss)
   call-fit ss e = let (A, f, M) = ok-footprint (next-sees call-kept call-prepared) _ ss requires-ok e in M .fit
 
   pub call-enters :
       (ss : List ℕ) → (o ≡ 0 → ⊥) → c .frames < most-frames → kindAt w (c .row) ≡ statementNumber Call → c .steps < 4294967295 →
       takeIn (prepared w c method o p) (nextView c) (requiresAt (prepared w c method o p) method) [] ≡ ok ss →
-      Follows (marked (prepared w c method o p) ss (c .holder) (c .holders + 1)) c
+      Follows (marked (prepared w c method o p) (spread (prepared w c method o p) (c .objects) ss) (c .holder) (c .holders + 1)) c
       (Turn.On (called c (firstRowAt (prepared w c method o p) method))) m (took (callStep y (methodAt w method) z m))
   unfolding callStep _>>=_ check _>>_
   call-enters ss n l k h e =
@@ -331,7 +336,7 @@ module _ {w : List ℕ} {c : Machine} {m : Config} (R : Represents w c m) (y z m
       let k′ : kindAt (prepared w c method o p) (c .row) ≡ statementNumber Call =
       kind-same w (prepared w c method o p) call-tables (c .row) (omega (arith, R .frame .row-fits, R .tables .rows)) ∙ k in
       follow-on R _ _ _ (after-null n _ ∙ rw (f′, lt-ltb (suc (length (m .callers))) most-frames (omega (arith, R .frames)))) refl
-      (enters call-kept call-prepared A ss M (taken-by A f) (omega (arith, R .given, R .most)) k′ l)
+      (enters call-kept call-prepared A (spread (prepared w c method o p) (c .objects) ss) M (taken-by A f) (omega (arith, R .given, R .most)) k′ l)
 
 -- THE CODE
 module _ {w : List ℕ} {c : Machine} (ready : CanStep w c) (k : AtKind w c Call) (y z method o p : ℕ)
@@ -399,7 +404,7 @@ module _ {w : List ℕ} {c : Machine} (ready : CanStep w c) (k : AtKind w c Call
   calls w′ (Turn.On d) n (inl (ss, e, (l, q, g))) =
       does-on q g
       (same-trans tables-too
-      (only-tables (only-marked (prepared w c method o p) ss (c .holder) (c .holders + 1) (calling .fit ss e)) (omega arith)))
+      (only-tables (only-marked (prepared w c method o p) (spread (prepared w c method o p) (c .objects) ss) (c .holder) (c .holders + 1) (calling .fit ss e)) (omega arith)))
       (λ m R. follow-as _ (Turn.On (called c (firstRowAt (prepared w c method o p) method))) m (call-enters R y z method o p exists ly lz eo ep lo lp lh ss n l k (ready .more) e))
   calls w′ (Turn.Stopped f) n (inl (ss, e, (l, q, g))) =
       subst (λ s. Does w c w′ (Turn.Stopped s) (callHere w c)) (sym g)

@@ -35,9 +35,10 @@ use Rattle.run_steps.specs.States.{HeapIs, Represents, Follows, Does, CanStep, 
 use Rattle.run_calls.specs.Calls.{larger, newHere}
 use Rattle.run_heap.proofs.Halves.{one-same, one-other}
 use Rattle.run_heap.proofs.Reading.{Placed, cell-placed, cell-small, cell-beyond, cell-null, cell-some, bound-free, place-found}
-use Rattle.run_steps.proofs.Seeing.{at}
+use Rattle.run_steps.proofs.Sights.{at}
 use Rattle.run_footprint.proofs.Regions.{Only, only-tables, only-word}
-use Rattle.run_steps.proofs.Keeping.{SameObjects, same-frame, cell-kept, fits-kept, ensures-kept, callers-kept}
+use Rattle.run_footprint.proofs.Cells.{SameObjects, cell-kept, fits-kept}
+use Rattle.run_steps.proofs.Keeping.{same-frame, ensures-kept, callers-kept}
 use Rattle.run_steps.proofs.Moves.{moved-to, next-is, next-fits, follow-stop, follow-on}
 use Rattle.run_steps.proofs.Changes.{put-variable}
 use Rattle.run_steps.proofs.Steps.{frame-holding}

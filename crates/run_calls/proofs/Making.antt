@@ -14,7 +14,7 @@ use Rattle.tables.specs.Stores.{putHalf}
 use Rattle.tables.proofs.Bytes.{half-put, word-kept, half-kept}
 use Rattle.run_heap.specs.Views.{cellValue, holdersAt, firstHolder, secondHolder, one, halvesAt, classIn, firstIn, fill, made}
 use Rattle.run_footprint.proofs.Regions.{Only, only-trans, only-wide, only-half, only-byte, only-fill, only-kept, fill-word, class-in-kept, first-in-kept}
-use Rattle.run_steps.proofs.Keeping.{SameObjects}
+use Rattle.run_footprint.proofs.Cells.{SameObjects}
 
 module _ (w : List ℕ) (i k n class holder : ℕ) (size : length w ≡ work-bytes) (li : i < heap-objects) (lk : k + n ≤ heap-fields)
     (lh : holder < 4294967296) where

@@ -4,15 +4,16 @@ use mathlib.Core.List.{List, []}
 use mathlib.Core.Logic.{_⊎_}
 use Prim.Native.Nat.{ℕ, _+_, _≤_, _<_}
 use lib.ListN.{length, take}
-use Rattle.rules.specs.Limits.{most-frames, most-methods, work-bytes}
+use Rattle.rules.specs.Limits.{most-frames, most-methods}
 use Rattle.rules.specs.Base.{ok, no}
 use Rattle.rules.specs.declared.Machine.{Machine}
 use Rattle.rules.specs.Machine.{Config, Step, Room, took, newStep, callStep}
 use Rattle.tables.specs.Decode.{xAt, yAt, zAt, memberAt, classAt, methodAt, methodCount, requiresAt, firstRowAt}
 use Rattle.run_heap.specs.declared.Fault.{Fault}
+use Rattle.run_heap.specs.declared.View.{View}
 use Rattle.run_steps.specs.declared.Turn.{Turn}
 use Rattle.run_heap.specs.Views.{nextView, Readable, stopOf}
-use Rattle.run_footprint.specs.Footprints.{footprint-shares, marked, takeIn, SharesFit}
+use Rattle.run_footprint.specs.Footprints.{footprint-shares, spread, marked, takeIn, SharesFit}
 use Rattle.run_steps.specs.States.{most-count}
 
 -- WHAT THE DEFINITIONS DO at the row, by its operands
@@ -41,7 +42,7 @@ called c row =
 -- a call is entered with these shares, unless frames are full
 abbrev pub Enters : List ℕ → Machine → ℕ → List ℕ → List ℕ → Turn → Type 0
 Enters w c method ss w′ (Turn.On d) =
-    (c .frames < most-frames) × (w′ ≡ marked w ss (c .holder) (c .holders + 1)) × (d ≡ called c (firstRowAt w method))
+    (c .frames < most-frames) × (w′ ≡ marked w (spread w (c .objects) ss) (c .holder) (c .holders + 1)) × (d ≡ called c (firstRowAt w method))
 Enters w c method ss w′ (Turn.Stopped f) = (most-frames ≤ c .frames) × (w′ ≡ w) × (f ≡ Fault.FramesFull)
 Enters w c method ss w′ Turn.Done = ⊥
 
@@ -58,15 +59,16 @@ larger c n steps =
       steps = steps;
     }
 
--- `call`: requires took these shares
-pub record Entering (w : List ℕ) (c : Machine) (method : ℕ) (shares : List ℕ) (n : ℕ) : Type 0 where
-  pub area : length w ≡ work-bytes
+-- `call`: requires, read by this view, took these shares
+pub record Entering (w : List ℕ) (c : Machine) (v : View) (method : ℕ) (shares : List ℕ) (n : ℕ) : Type 0 where
+  pub view : v ≡ nextView c
+  pub readable : Readable w v
   pub method-fits : method < most-methods
   pub more : c .steps < most-count
   pub numbers : c .holders < most-count
   pub size : length shares ≡ footprint-shares
   pub count : n ≤ footprint-shares
-  pub fit : SharesFit (take n shares)
+  pub fit : SharesFit (spread w (v .objects) (take n shares))
 
 -- requires takes shares, and the call is entered; or it does not, and nothing is changed
 abbrev pub Admits : List ℕ → Machine → ℕ → List ℕ → Turn → Type 0
@@ -80,4 +82,4 @@ pub record Calling (w : List ℕ) (c : Machine) (method : ℕ) : Type 0 where
   pub exists : method < methodCount w
   pub more : c .steps < most-count
   pub numbers : c .holders < most-count
-  pub fit : (ss : List ℕ) → takeIn w (nextView c) (requiresAt w method) [] ≡ ok ss → SharesFit ss
+  pub fit : (ss : List ℕ) → takeIn w (nextView c) (requiresAt w method) [] ≡ ok ss → SharesFit (spread w (c .objects) ss)

@@ -32,15 +32,15 @@ fn call_in(c: Machine, row: u32) -> Machine
 }
 
 // "the new frame's A is the footprint of requires": after it frames full.
-fn enter(work: &mut [u8], c: Machine, m: usize, shares: &Shares, n: usize) -> Turn
-    requires { ⌜ Entering (now work) c m (now shares) n ⌝ }
+fn enter(work: &mut [u8], c: Machine, v: View, m: usize, shares: &Shares, n: usize) -> Turn
+    requires { ⌜ Entering (now work) c v m (now shares) n ⌝ }
     ensures { λ r. ⌜ Enters (now (work .entry)) c m (take n (now (shares .entry))) (now (work .exit)) r ⌝ }
 {
     if Machine::FRAMES as u32 <= c.frames {
         return Turn::Stopped(Fault::FramesFull);
     }
     let row = tables::first_row_at(work, m);
-    run_footprint::mark(work, shares, n, c.holder, c.holders + 1);
+    run_footprint::mark(work, v, shares, n, c.holders + 1);
     Turn::On(call_in(c, row as u32))
 }
 
@@ -59,7 +59,7 @@ fn admit(work: &mut [u8], c: Machine, m: usize) -> Turn
     let n = tables::requires_count(work, m);
     let mut shares = [0usize; run_footprint::SHARES];
     match run_footprint::footprint(work, v, first, n, &mut shares) {
-        Took::Shares(k) => enter(work, c, m, &shares, k),
+        Took::Shares(k) => enter(work, c, v, m, &shares, k),
         Took::Lacking(s) => Turn::Stopped(s),
     }
 }

@@ -28,7 +28,7 @@ put-other w a b v o =
     (only-kept (only-word a (a + 4) w a v (omega arith) (omega arith)) b (b + 4) (⊎-elim (λ l. inr l) (λ l. inl l) o))
     b (omega arith) (omega arith)
 
-only-handed :
+pub only-handed :
     (w : List ℕ) (k n from to : ℕ) → k < heap-fields → Only holders-at objects-at w (handed w k n from to)
 unfolding handed wholePut halfPut
 only-handed w k n from to l = go (ltb n 2) (eqb (firstHolder w k) from)

@@ -1,4 +1,10 @@
-// What a formula takes, and who holds it then.
+// What a formula takes, and who holds it then. Chains are in `chains`.
+mod chains;
+
+use chains::chain_part;
+use chains::is_chain;
+use chains::mark_chain;
+use chains::take_chain;
 use rules::Machine;
 use run_heap::Fault;
 use run_heap::Read;
@@ -9,15 +15,17 @@ ghost use mathlib.Core.Path.{_≡_};
 ghost use mathlib.Core.List.{[], _∷_};
 ghost use Prim.Native.Nat.{_+_, _*_, _≤_, _<_};
 ghost use lib.ListN.{length, take};
-ghost use Rattle.rules.specs.Limits.{work-bytes, heap-fields};
-ghost use Rattle.tables.specs.Numbers.{eq-atom};
+ghost use Rattle.rules.specs.Limits.{heap-fields};
+ghost use Rattle.tables.specs.Numbers.{chain-atom};
+ghost use Rattle.tables.specs.Layout.{most-names};
 ghost use Rattle.tables.specs.Decode.{relOf, atomsFrom, atomCount, atomAt, atomKindAt};
 ghost use Rattle.rules.specs.Base.{ok};
 ghost use Rattle.rules.specs.Machine.{compared};
 ghost use Rattle.run_heap.specs.Views.{Readable, halvesAt};
-ghost use Rattle.run_footprint.specs.Footprints.{rightTest, testIn, share-size, cellIn, halvesIn, partOf, taken, newShare, takeIn, SharesFit, marked, truthIs, footprint-shares, TookUpTo, TookOne, RoomAfter};
+ghost use Rattle.run_footprint.specs.Footprints.{rightTest, testIn, share-size, cellIn, halvesIn, partBy, takenBy, newShare, takeIn, spreadOne, spread, SharesFit, marked, truthIs, footprint-shares, TookUpTo, TookOne, RoomAfter};
 
-// The shares of a footprint: each a cell times SHARE, and how many halves of it.
+// The shares of a footprint: each a cell times SHARE, and how many halves of it; or a chain, with the object and the field from and by which it goes
+// for the cell, and for the halves the kind of its atom.
 pub type Shares = [usize; SHARES];
 
 // How many there can be: each atom of a formula takes one at most.
@@ -100,10 +108,14 @@ pub fn condition(work: &[u8], v: View, a: usize) -> Truth
     }
 }
 
-// How many halves of the cell k the share s is.
-fn part_of(s: usize, k: usize) -> usize
-    ensures { λ r. ⌜ (r ≡ partOf k s) × (r < share-size) ⌝ }
+// How many halves of the cell k, which is of a field f, the share s takes.
+fn part_of(work: &[u8], v: View, f: usize, s: usize, k: usize) -> usize
+    requires { ⌜ Readable (now work) v × (f < most-names) ⌝ }
+    ensures { λ r. ⌜ (r ≡ partBy (now (work .entry)) (v .objects) f k s) × (r < share-size) ⌝ }
 {
+    if is_chain(s) {
+        return chain_part(work, v, f, s, k);
+    }
     if s / SHARE == k {
         return s % SHARE;
     }
@@ -111,45 +123,47 @@ fn part_of(s: usize, k: usize) -> usize
 }
 
 // How many of it the first n shares take.
-fn taken(shares: &Shares, n: usize, k: usize) -> usize
-    requires { ⌜ (n ≤ footprint-shares) × (length (now shares) ≡ footprint-shares) ⌝ }
-    ensures { λ r. ⌜ (r ≡ taken k (take n (now (shares .entry)))) × (r < share-size * footprint-shares) ⌝ }
+fn taken(work: &[u8], v: View, f: usize, shares: &Shares, n: usize, k: usize) -> usize
+    requires { ⌜ (Readable (now work) v × (f < most-names)) × ((n ≤ footprint-shares) × (length (now shares) ≡ footprint-shares)) ⌝ }
+    ensures { λ r. ⌜ (r ≡ takenBy (now (work .entry)) (v .objects) f k (take n (now (shares .entry)))) × (r < share-size * footprint-shares) ⌝ }
 {
     let mut t = 0;
     let mut i = 0;
     while i < n {
         let s = shares[i];
-        t += part_of(s, k);
+        t += part_of(work, v, f, s, k);
         i += 1;
     }
     t
 }
 
-// Takes the share s after n others, some of which may be of its cell.
-fn put_seen(work: &[u8], h: u32, shares: &mut Shares, n: usize, s: usize) -> Took
-    requires { ⌜ ((length (now work) ≡ work-bytes) × (cellIn s < heap-fields)) × ((n < footprint-shares) × (length (now shares) ≡ footprint-shares)) ⌝ }
-    ensures { λ r. ⌜ TookUpTo r (now (shares .exit)) (n + 1) (newShare (now (work .entry)) h (halvesIn s) (take n (now (shares .entry))) (cellIn s)) ⌝ }
+// Takes the share s, of a field f, after n others, some of which may be of its cell.
+fn put_seen(work: &[u8], v: View, f: usize, shares: &mut Shares, n: usize, s: usize) -> Took
+    requires { ⌜ ((Readable (now work) v × (f < most-names)) × (cellIn s < heap-fields)) × ((n < footprint-shares) × (length (now shares) ≡ footprint-shares)) ⌝ }
+    ensures { λ r. ⌜ TookUpTo r (now (shares .exit)) (n + 1) (newShare (now (work .entry)) v f (halvesIn s) (take n (now (shares .entry))) (cellIn s)) ⌝ }
 {
     let k = s / SHARE;
-    let t = s % SHARE + taken(shares, n, k);
-    if run_heap::halves_held(work, h, k) < t {
+    let t = s % SHARE + taken(work, v, f, shares, n, k);
+    if run_heap::halves_held(work, v.holder, k) < t {
         return Took::Lacking(Fault::Permission);
     }
     shares[n] = s;
     Took::Shares(n + 1)
 }
 
-// Takes the share s, which h holds, after n others. Those are looked at only where the remainder of its cell by SIEVE has been seen.
+// Takes the share s, of a field f, which the view's number holds, after n others. Those are looked at only where the remainder of its cell by SIEVE has
+// been seen.
 fn put_share(
     work: &[u8],
-    h: u32,
+    v: View,
+    f: usize,
     shares: &mut Shares,
     seen: &mut [u8; SIEVE],
     n: usize,
     s: usize,
 ) -> Took
-    requires { ⌜ (((length (now work) ≡ work-bytes) × (cellIn s < heap-fields)) × (halvesIn s ≤ halvesAt (now work) h (cellIn s))) × RoomAfter (now shares) (now seen) n ⌝ }
-    ensures { λ r. ⌜ TookOne r (now (shares .exit)) (now (seen .exit)) n (newShare (now (work .entry)) h (halvesIn s) (take n (now (shares .entry))) (cellIn s)) ⌝ }
+    requires { ⌜ (((Readable (now work) v × (f < most-names)) × (cellIn s < heap-fields)) × (halvesIn s ≤ halvesAt (now work) (v .holder) (cellIn s))) × RoomAfter (now shares) (now seen) n ⌝ }
+    ensures { λ r. ⌜ TookOne r (now (shares .exit)) (now (seen .exit)) n (newShare (now (work .entry)) v f (halvesIn s) (take n (now (shares .entry))) (cellIn s)) ⌝ }
 {
     let r = s / SHARE % SIEVE;
     let b = seen[r];
@@ -158,7 +172,7 @@ fn put_share(
         shares[n] = s;
         return Took::Shares(n + 1);
     }
-    put_seen(work, h, shares, n, s)
+    put_seen(work, v, f, shares, n, s)
 }
 
 // `acc x f` or `read x f`, the atom a, after n shares: "of a null is 25, of a location not in A or already taken in this formula 24".
@@ -170,14 +184,14 @@ fn take_share(
     seen: &mut [u8; SIEVE],
     n: usize,
 ) -> Took
-    requires { ⌜ (Readable (now work) v × ((a < atomCount (now work)) × (atomKindAt (now work) a < eq-atom))) × RoomAfter (now shares) (now seen) n ⌝ }
+    requires { ⌜ (Readable (now work) v × ((a < atomCount (now work)) × (atomKindAt (now work) a < chain-atom))) × RoomAfter (now shares) (now seen) n ⌝ }
     ensures { λ r. ⌜ TookOne r (now (shares .exit)) (now (seen .exit)) n (takeIn (now (work .entry)) v (atomAt (now (work .entry)) a ∷ []) (take n (now (shares .entry)))) ⌝ }
 {
     let halves = tables::atom_kind(work, a);
     let x = tables::atom_variable(work, a);
     let f = tables::atom_field(work, a);
     match run_heap::locate(work, v, halves, x, f) {
-        Spot::At(k) => put_share(work, v.holder, shares, seen, n, k * SHARE + halves),
+        Spot::At(k) => put_share(work, v, f, shares, seen, n, k * SHARE + halves),
         Spot::Lacking(s) => Took::Lacking(s),
     }
 }
@@ -194,8 +208,12 @@ fn take_atom(
     requires { ⌜ (Readable (now work) v × (a < atomCount (now work))) × RoomAfter (now shares) (now seen) n ⌝ }
     ensures { λ r. ⌜ TookOne r (now (shares .exit)) (now (seen .exit)) n (takeIn (now (work .entry)) v (atomAt (now (work .entry)) a ∷ []) (take n (now (shares .entry)))) ⌝ }
 {
-    if tables::atom_kind(work, a) < AtomKind::EQ {
+    let kind = tables::atom_kind(work, a);
+    if kind < AtomKind::CHAIN {
         return take_share(work, v, a, shares, seen, n);
+    }
+    if kind == AtomKind::CHAIN {
+        return take_chain(work, v, a, shares, seen, n);
     }
     match test(work, v, a) {
         Truth::Holds => Took::Shares(n),
@@ -224,15 +242,27 @@ pub fn footprint(work: &[u8], v: View, first: usize, n: usize, shares: &mut Shar
     Took::Shares(count)
 }
 
-// The first n shares go from the number that holds them to another.
-pub fn mark(work: &mut [u8], shares: &Shares, n: usize, from: u32, to: u32)
-    requires { ⌜ ((length (now work) ≡ work-bytes) × ((n ≤ footprint-shares) × (length (now shares) ≡ footprint-shares))) × SharesFit (take n (now shares)) ⌝ }
-    ensures { λ _. ⌜ now (work .exit) ≡ marked (now (work .entry)) (take n (now (shares .entry))) from to ⌝ }
+// The share s goes from the view's number to another.
+fn mark_one(work: &mut [u8], v: View, s: usize, to: u32)
+    requires { ⌜ Readable (now work) v × SharesFit (spreadOne (now work) (v .objects) s) ⌝ }
+    ensures { λ _. ⌜ now (work .exit) ≡ marked (now (work .entry)) (spreadOne (now (work .entry)) (v .objects) s) (v .holder) to ⌝ }
+{
+    if is_chain(s) {
+        mark_chain(work, v, s, to);
+        return;
+    }
+    run_heap::hand_over(work, s / SHARE, s % SHARE, v.holder, to);
+}
+
+// The first n shares do.
+pub fn mark(work: &mut [u8], v: View, shares: &Shares, n: usize, to: u32)
+    requires { ⌜ (Readable (now work) v × ((n ≤ footprint-shares) × (length (now shares) ≡ footprint-shares))) × SharesFit (spread (now work) (v .objects) (take n (now shares))) ⌝ }
+    ensures { λ _. ⌜ now (work .exit) ≡ marked (now (work .entry)) (spread (now (work .entry)) (v .objects) (take n (now (shares .entry)))) (v .holder) to ⌝ }
 {
     let mut i = 0;
     while i < n {
         let s = shares[i];
-        run_heap::hand_over(work, s / SHARE, s % SHARE, from, to);
+        mark_one(work, v, s, to);
         i += 1;
     }
 }

@@ -137,7 +137,7 @@ unfolding present
 present-is none k e = absurd (let z : _≡_ {A = ℕ} 0 1 = cc in omega arith)
 present-is (some j) k e = ap some (ok-inj e)
 
-found-is : (w : List ℕ) (n o f k : ℕ) → foundOf w n o f ≡ ok k → cellOf w n o f ≡ some k
+pub found-is : (w : List ℕ) (n o f k : ℕ) → foundOf w n o f ≡ ok k → cellOf w n o f ≡ some k
 unfolding foundOf
 found-is w n o f k e = let (_, e′) = check-ok (not (eqb o 0)) nullFollowed e in present-is _ k e′
 

@@ -1,6 +1,10 @@
 // The machine's stores in the work area: values, objects, frames; a location found, tested and read. Who holds it is in `holders`.
+mod chains;
 mod holders;
 
+pub use chains::walk;
+pub use chains::walk_end;
+pub use chains::whole_cell;
 pub use holders::halves_held;
 pub use holders::hand_over;
 use holders::held_cell;
@@ -93,7 +97,8 @@ pub fn variable(work: &[u8], b: usize, x: usize) -> u32
     tables::word_at(work, b + x * Stores::WORD_BYTES)
 }
 
-fn cell_value(work: &[u8], k: usize) -> u32
+// The value of the cell k.
+pub fn cell_value(work: &[u8], k: usize) -> u32
     requires { ⌜ (length (now work) ≡ work-bytes) × (k < heap-fields) ⌝ }
     ensures { λ r. ⌜ r ≡ cellValue (now (work .entry)) k ⌝ }
 {
@@ -131,7 +136,7 @@ fn cell_at(work: &[u8], v: View, i: usize, f: usize) -> Spot
 }
 
 // The cell of a field of the object o.
-fn cell_of(work: &[u8], v: View, o: u32, f: usize) -> Spot
+pub fn cell_of(work: &[u8], v: View, o: u32, f: usize) -> Spot
     requires { ⌜ Readable (now work) v × (f < most-names) ⌝ }
     ensures { λ r. ⌜ spotIs r ≡ foundOf (now (work .entry)) (v .objects) o f ⌝ }
 {

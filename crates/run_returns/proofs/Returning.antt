@@ -11,7 +11,8 @@ use Rattle.rules.specs.Answers.{Stop}
 use Rattle.rules.specs.Grammar.{Call, statementNumber}
 use Rattle.rules.specs.Machine.{Heap, Frame, Location, halves, valueOf, footprint, advance, bind, holding, withFrame, statementOf, targetOf, returned, endStep}
 use Rattle.rules.specs.declared.Machine.{Machine}
-use Rattle.rules.proofs.Sets.{halves-append, footprint-held}
+use Rattle.rules.proofs.Sets.{halves-append}
+use Rattle.rules.proofs.Footprints.{footprint-held}
 use Rattle.tables.specs.Layout.{frame-variables, holders-at, objects-at, frames-at}
 use Rattle.tables.specs.Decode.{programIn, byteAt, halfAt, methodPlace, operandsAt, stmtAt, rowAt, kindAt, xAt, rowCount, methodCount, atomsFrom, atomCount, ensuresAt}
 use Rattle.tables.specs.Stores.{SameTables, putWord}
@@ -23,7 +24,7 @@ use Rattle.run_heap.specs.declared.Fault.{Fault}
 use Rattle.run_steps.specs.declared.Turn.{Turn}
 use Rattle.run_heap.specs.declared.View.{View}
 use Rattle.run_heap.specs.Views.{frameAt, variableAt, savedHolder, savedRow, methodOf, halvesOf, viewOf, stopOf}
-use Rattle.run_footprint.specs.Footprints.{takeIn, marked, SharesFit}
+use Rattle.run_footprint.specs.Footprints.{spread, takeIn, marked, SharesFit}
 use Rattle.run_steps.specs.States.{FrameIs, CallerIs, CallersAre, Represents, Follows, Does, CanStep}
 use Rattle.run_returns.specs.Returns.{back, endHere}
 use Rattle.run_steps.proofs.Seeing.{Matches, FormulaOk, no-footprint, ok-footprint, atoms-ok}
@@ -114,22 +115,23 @@ module _ {w : List ℕ} {c : Machine} {h : _} {F C : Frame} {Cs : List Frame}
       (ss : List ℕ) (v : ℕ) → savedHolder w (length Cs) < 4294967296 → v < 4294967296 → v ≡ valueOf F result-variable →
       xAt w (savedRow w (length Cs)) < frame-variables →
       takeIn w (viewOf c) (ensuresAt w (methodOf w (suc (length Cs)))) [] ≡ ok ss →
-      Follows (putWord (marked w ss (c .holder) (savedHolder w (length Cs))) (frameAt (length Cs) + xAt w (savedRow w (length Cs)) * 4) v) c
+      Follows (putWord (marked w (spread w (c .objects) ss) (c .holder) (savedHolder w (length Cs))) (frameAt (length Cs) + xAt w (savedRow w (length Cs)) * 4) v) c
       (Turn.On (back c (savedHolder w (length Cs)) (savedRow w (length Cs) + 1)))
       (record { heap = h; frame = F; callers = C ∷ Cs })
       (endStep (programIn w) (record { heap = h; frame = F; callers = C ∷ Cs }) (C ∷ Cs))
   unfolding endStep returned withFrame advance bind holding _>>=_ rowAt statementOf statementNumber
   returns-on ss v l lv ev lx e =
       let n : ℕ = savedHolder w (length Cs) in
+      let rs : List ℕ = spread w (c .objects) ss in
       let x : ℕ = xAt w (savedRow w (length Cs)) in
       let (A, a, M) = ok-footprint (sees R) _ ss ensures-ok e in
       let a′ : footprint h F (F .ensures) ≡ ok A = ap (footprint h F) ensures-is ∙ a in
-      let R1 = regained A ss l M (footprint-held h F _ A a) in
+      let R1 = regained A rs l M (footprint-held h F _ A a) in
       let R2 = put-variable R1 x v lx lv in
-      let t1 : SameTables w (marked w ss (c .holder) n) = only-tables (only-marked w ss (c .holder) n (M .fit)) (omega arith) in
-      let t2 : SameTables (marked w ss (c .holder) n) (putWord (marked w ss (c .holder) n) (frameAt (length Cs) + x * 4) v) =
-      only-tables (only-word frames-at (frames-at + 8192) (marked w ss (c .holder) n) (frameAt (length Cs) + x * 4) v (omega arith) (omega (arith, R .most, R .frames))) (omega arith) in
-      let k : kindAt (putWord (marked w ss (c .holder) n) (frameAt (length Cs) + x * 4) v) (savedRow w (length Cs)) ≡ statementNumber Call = row-stays _ (same-trans t1 t2) in
+      let t1 : SameTables w (marked w rs (c .holder) n) = only-tables (only-marked w rs (c .holder) n (M .fit)) (omega arith) in
+      let t2 : SameTables (marked w rs (c .holder) n) (putWord (marked w rs (c .holder) n) (frameAt (length Cs) + x * 4) v) =
+      only-tables (only-word frames-at (frames-at + 8192) (marked w rs (c .holder) n) (frameAt (length Cs) + x * 4) v (omega arith) (omega (arith, R .most, R .frames))) (omega arith) in
+      let k : kindAt (putWord (marked w rs (c .holder) n) (frameAt (length Cs) + x * 4) v) (savedRow w (length Cs)) ≡ statementNumber Call = row-stays _ (same-trans t1 t2) in
       let target : targetOf (statementOf (programIn w) C) ≡ x = ap (λ (r : Row). targetOf (r .stmt)) (row-of (caller .frame)) ∙ target-is in
       follow-on R (back c n (savedRow w (length Cs) + 1)) _ _ (rw (a′, target, ← ev)) refl
       (moved-to R2 (savedRow w (length Cs) + 1) (c .steps + 1) _ (next-fits R2 (λ z. omega (arith, z, k))) (next-is R2) (omega arith))
@@ -187,11 +189,13 @@ module _ {w : List ℕ} {c : Machine} (ready : CanStep w c) where
             returns-stop R s (rw j e)
 
     pub end-fits :
-        (ss : List ℕ) → takeIn w (viewOf c) (ensuresAt w (methodOf w (c .frames - 1))) [] ≡ ok ss → SharesFit ss
+        (ss : List ℕ) → takeIn w (viewOf c) (ensuresAt w (methodOf w (c .frames - 1))) [] ≡ ok ss →
+        SharesFit (spread w (c .objects) ss)
     end-fits ss e = go (ready .state .heap) (ready .state .frame) (ready .state .callers) (ready .represents)
       where
         go :
-            (h : Heap) (F : Frame) (Fs : List Frame) → Represents w c (record { heap = h; frame = F; callers = Fs }) → SharesFit ss
+            (h : Heap) (F : Frame) (Fs : List Frame) → Represents w c (record { heap = h; frame = F; callers = Fs }) →
+            SharesFit (spread w (c .objects) ss)
         go h F [] R = absurd (many (R .frames))
         go h F (C ∷ Cs) R =
             let j : suc (length Cs) ≡ c .frames - 1 = omega (arith, R .frames) in
@@ -202,12 +206,12 @@ module _ {w : List ℕ} {c : Machine} (ready : CanStep w c) where
         (ss : List ℕ) (n r x v : ℕ) {w′ : List ℕ} {d : Machine} →
         takeIn w (viewOf c) (ensuresAt w (methodOf w (c .frames - 1))) [] ≡ ok ss → n ≡ savedHolder w (c .frames - 2) → n < 4294967296 →
         r ≡ savedRow w (c .frames - 2) → x ≡ xAt w r → v ≡ variableAt w (frameAt (c .frames - 1)) result-variable → v < 4294967296 →
-        w′ ≡ putWord (marked w ss (c .holder) n) (frameAt (c .frames - 2) + x * 4) v → d ≡ back c n (r + 1) →
+        w′ ≡ putWord (marked w (spread w (c .objects) ss) (c .holder) n) (frameAt (c .frames - 2) + x * 4) v → d ≡ back c n (r + 1) →
         Does w c w′ (Turn.On d) (endHere w)
     leave-does ss n r x v {w′} {d} e en ln er ex ev lv p q =
         does-on p q
-        (same-trans (only-tables (only-marked w ss (c .holder) n (end-fits ss e)) (omega arith))
-        (only-tables (only-word frames-at (frames-at + 8192) (marked w ss (c .holder) n) (frameAt (c .frames - 2) + x * 4) v (omega arith) (omega (arith, xl, frames-fit ready .1))) (omega arith)))
+        (same-trans (only-tables (only-marked w (spread w (c .objects) ss) (c .holder) n (end-fits ss e)) (omega arith))
+        (only-tables (only-word frames-at (frames-at + 8192) (marked w (spread w (c .objects) ss) (c .holder) n) (frameAt (c .frames - 2) + x * 4) v (omega arith) (omega (arith, xl, frames-fit ready .1))) (omega arith)))
         (λ m R. go (m .heap) (m .frame) (m .callers) R)
       where
         rl : r < rowCount w
@@ -218,7 +222,7 @@ module _ {w : List ℕ} {c : Machine} (ready : CanStep w c) where
 
         go :
             (h : Heap) (F : Frame) (Fs : List Frame) → Represents w c (record { heap = h; frame = F; callers = Fs }) →
-            Follows (putWord (marked w ss (c .holder) n) (frameAt (c .frames - 2) + x * 4) v) c (Turn.On (back c n (r + 1)))
+            Follows (putWord (marked w (spread w (c .objects) ss) (c .holder) n) (frameAt (c .frames - 2) + x * 4) v) c (Turn.On (back c n (r + 1)))
             (record { heap = h; frame = F; callers = Fs }) (endStep (programIn w) (record { heap = h; frame = F; callers = Fs }) Fs)
         go h F [] R = absurd (many (R .frames))
         go h F (C ∷ Cs) R =

@@ -40,7 +40,7 @@ fn leave(work: &mut [u8], c: Machine, shares: &Shares, n: usize) -> Turn
     let row = run_heap::saved_row(work, i);
     let result = run_heap::variable(work, at + Layout::FRAME_BYTES, Stores::RESULT);
     let x = tables::x_at(work, row);
-    run_footprint::mark(work, shares, n, c.holder, holder);
+    run_footprint::mark(work, run_heap::view_of(c), shares, n, holder);
     tables::put_word(work, at + x * Stores::WORD_BYTES, result);
     Turn::On(back_in(c, holder, row as u32 + 1))
 }

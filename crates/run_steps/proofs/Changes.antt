@@ -19,10 +19,12 @@ use Rattle.run_heap.specs.Views.{frameAt, variableAt, cellValue, halvesAt, cell
 use Rattle.run_footprint.specs.Footprints.{taken, marked}
 use Rattle.run_steps.specs.States.{HeapIs, Represents}
 use Rattle.run_heap.proofs.Reading.{Placed, cell-placed, cell-small}
-use Rattle.run_steps.proofs.Seeing.{Matches, cells-apart}
+use Rattle.run_steps.proofs.Sights.{cells-apart}
+use Rattle.run_steps.proofs.Seeing.{Matches}
 use Rattle.run_footprint.proofs.Regions.{Only, only-word, only-kept, only-tables, value-kept, halves-kept, apart}
 use Rattle.run_footprint.proofs.Handing.{only-marked, marked-lost, marked-gained, marked-other, marked-most}
-use Rattle.run_steps.proofs.Keeping.{SameObjects, same-objects, same-frame, cell-kept, halves-of-kept, frame-kept, ensures-kept, callers-kept, heap-kept, heap-changed}
+use Rattle.run_footprint.proofs.Cells.{SameObjects, same-objects, cell-kept}
+use Rattle.run_steps.proofs.Keeping.{same-frame, halves-of-kept, frame-kept, ensures-kept, callers-kept, heap-kept, heap-changed}
 use Rattle.run_steps.proofs.Moves.{frame-bind}
 use Rattle.run_steps.proofs.Heaps.{Has, store-size, store-fields, store-has}
 

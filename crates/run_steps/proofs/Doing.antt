@@ -3,14 +3,14 @@ use mathlib.Core.Path.{_≡_, refl, sym, _∙_, subst}
 use mathlib.Core.Bool.{true, false}
 use mathlib.Core.List.{List, []}
 use mathlib.Core.Logic.{inl, inr}
-use Prim.Native.Nat.{ℕ, _+_, _*_, _-_, _≤_, _<_}
+use Prim.Native.Nat.{ℕ, suc, _+_, _*_, _-_, _≤_, _<_}
 use native.Mathlib.Omega.{arith}
 use lib.Dec.{T}
 use lib.ListN.{length}
 use Rattle.rules.specs.Limits.{heap-fields, most-statements, most-frames}
-use Rattle.rules.specs.Base.{ok, no}
-use Rattle.rules.specs.Answers.{overflow}
-use Rattle.rules.specs.Grammar.{Set, Let, If, Loop, statementNumber, isComputing}
+use Rattle.rules.specs.Base.{Try, ok, no}
+use Rattle.rules.specs.Answers.{Stop, overflow}
+use Rattle.rules.specs.Grammar.{Set, Let, If, Loop, Open, Shut, statementNumber, isComputing}
 use Rattle.rules.specs.Machine.{Config, Step, computed}
 use Rattle.rules.specs.declared.Machine.{Machine}
 use Rattle.tables.specs.Layout.{frame-variables, values-at, holders-at, frames-at, most-names}
@@ -21,9 +21,10 @@ use Rattle.tables.proofs.Bytes.{same-refl}
 use Rattle.run_heap.specs.declared.View.{View}
 use Rattle.run_heap.specs.declared.Fault.{Fault}
 use Rattle.run_steps.specs.declared.Turn.{Turn}
-use Rattle.run_heap.specs.Views.{frameAt, variableAt, spot, readIn, viewOf, stopOf, Readable, frame-holder}
-use Rattle.run_footprint.specs.Footprints.{testIn, takeIn, marked, SharesFit}
-use Rattle.run_steps.specs.States.{Represents, Follows, Does, CanStep, NotEnd, AtKind, Chooses, Jumps, stepped, setHere, letHere, computeHere, assertHere, releaseHere, ifOn, loopHere, jumpHere}
+use Rattle.run_heap.specs.Views.{frameAt, variableAt, cellValue, halvesAt, spot, readIn, viewOf, stopOf, Readable, frame-holder}
+use Rattle.run_heap.specs.Chains.{walkIn}
+use Rattle.run_footprint.specs.Footprints.{testIn, spread, takeIn, marked, SharesFit}
+use Rattle.run_steps.specs.States.{Represents, Follows, Does, CanStep, NotEnd, AtKind, Chooses, Jumps, stepped, setHere, letHere, computeHere, assertHere, releaseHere, openHere, shutHere, Opening, Shutting, Walked, ifOn, loopHere, jumpHere}
 use Rattle.run_heap.proofs.Reading.{spot-small}
 use Rattle.run_steps.proofs.Seeing.{ok-footprint}
 use Rattle.run_footprint.proofs.Regions.{only-word, only-tables}
@@ -90,17 +91,22 @@ module _ {w : List ℕ} {c : Machine} (ready : CanStep w c) where
   assert-stops s e = does-stop s (λ m R. Moves.assert-stop R _ s (Moves.row-formula-ok R) e)
 
   -- the shares that a formula took
-  pub taken-fit : (ss : List ℕ) → takeIn w (viewOf c) (formulaAt w (c .row)) [] ≡ ok ss → SharesFit ss
+  taken-fit : (ss : List ℕ) → takeIn w (viewOf c) (formulaAt w (c .row)) [] ≡ ok ss → SharesFit (spread w (c .objects) ss)
   taken-fit ss e =
       let R = ready .represents in
       let (A, a, M) = ok-footprint (Moves.sees R) _ ss (Moves.row-formula-ok R) e in
       M .fit
 
+  pub release-fit :
+      (ss : List ℕ) (v : View) → v ≡ viewOf c → takeIn w (viewOf c) (formulaAt w (c .row)) [] ≡ ok ss → SharesFit (spread w (v .objects) ss)
+  release-fit ss v ev e = rw ev (taken-fit ss e)
+
   pub release-does :
-      (ss : List ℕ) {w′ : List ℕ} {d : Machine} → NotEnd w c → takeIn w (viewOf c) (formulaAt w (c .row)) [] ≡ ok ss → w′ ≡ marked w ss (c .holder) 0 →
+      (ss : List ℕ) {w′ : List ℕ} {d : Machine} → NotEnd w c → takeIn w (viewOf c) (formulaAt w (c .row)) [] ≡ ok ss →
+      w′ ≡ marked w (spread w (c .objects) ss) (c .holder) 0 →
       d ≡ stepped c (c .row + 1) → Does w c w′ (Turn.On d) (releaseHere w c)
   release-does ss n e p q =
-      does-on p q (only-tables (only-marked w ss (c .holder) 0 (taken-fit ss e)) (omega arith))
+      does-on p q (only-tables (only-marked w (spread w (c .objects) ss) (c .holder) 0 (taken-fit ss e)) (omega arith))
       (λ m R. Steps.release-on R _ ss (Moves.row-formula-ok R) n e)
 
   pub release-stops :
@@ -200,7 +206,7 @@ module _ {w : List ℕ} {c : Machine} (ready : CanStep w c) where
   module _ (k : AtKind w c Set) (v : View) (x f : ℕ) (ev : v ≡ viewOf c) (ex : x ≡ xAt w (c .row)) (ef : f ≡ memberAt w (c .row)) where
     pub set-operands : (x < frame-variables) × (f < most-names)
     unfolding statementNumber
-    set-operands = (omega (arith, fits .x), omega (arith, fits .field k))
+    set-operands = (omega (arith, fits .x), omega (arith, fits .field (inl k)))
 
     pub set-small : (j : ℕ) → spot w v 2 x f ≡ ok j → j < heap-fields
     set-small j e = spot-small 2 x f (view-readable ev) e
@@ -221,3 +227,95 @@ module _ {w : List ℕ} {c : Machine} (ready : CanStep w c) where
         (s : Fault) → spot w v 2 x f ≡ no (stopOf s) →
         Does w c w (Turn.Stopped s) (setHere w c)
     set-stops s e = does-stop s (λ m R. Steps.set-stop R (xAt w (c .row)) _ _ s (fits .x) (rw (← ev, ← ex, ← ef) e))
+
+-- the walk that the code does
+walk-as :
+    (w : List ℕ) (c : Machine) (v : View) (f g n j : ℕ) {t : Try Stop ℕ} → v ≡ viewOf c → f ≡ g → n ≡ j →
+    walkIn w v (λ _. true) f (suc (v .objects)) n 0 ≡ t → walkIn w (viewOf c) (λ _. true) g (suc (c .objects)) j 0 ≡ t
+walk-as w c v f g n j {t} ev ef en e =
+    rw (← ef, ← en) (subst (λ (u : View). walkIn w u (λ _. true) f (suc (u .objects)) n 0 ≡ t) ev e)
+
+-- `open`
+module _ {w : List ℕ} {c : Machine} (ready : CanStep w c) (k : AtKind w c Open) (v : View) (ev : v ≡ viewOf c) where
+  pub open-operands : (x f : ℕ) → x ≡ yAt w (c .row) → f ≡ memberAt w (c .row) → (x < frame-variables) × (f < most-names)
+  unfolding statementNumber
+  open-operands x f ex ef = (omega (arith, fits ready .y), omega (arith, fits ready .field (inr (inl k))))
+
+  pub open-stops :
+      (x f : ℕ) (s : Fault) → x ≡ yAt w (c .row) → f ≡ memberAt w (c .row) → spot w v 2 x f ≡ no (stopOf s) →
+      Does w c w (Turn.Stopped s) (openHere w c)
+  open-stops x f s ex ef e = does-stop s (λ m R. Steps.open-stop R _ _ _ s (fits ready .y) (rw (← ev, ← ex, ← ef) e))
+
+pub open-small : {w : List ℕ} {c : Machine} {f k : ℕ} → Opening w c f k → k < heap-fields
+open-small O = spot-small 2 _ _ (view-readable (O .ready) refl) (O .cell)
+
+module _ {w : List ℕ} {c : Machine} {f k : ℕ} (O : Opening w c f k) (v : View) (n : ℕ) (ev : v ≡ viewOf c) (en : n ≡ cellValue w k) where
+  here : spot w (viewOf c) 2 (yAt w (c .row)) (memberAt w (c .row)) ≡ ok k
+  here = rw (← O .field) (O .cell)
+
+  pub open-does :
+      (y last : ℕ) {w′ : List ℕ} {d : Machine} → y ≡ xAt w (c .row) → n < 4294967296 →
+      walkIn w v (λ _. true) f (suc (v .objects)) n 0 ≡ ok last → w′ ≡ putWord w (v .base + y * 4) n → d ≡ stepped c (c .row + 1) →
+      Does w c w′ (Turn.On d) (openHere w c)
+  unfolding statementNumber
+  open-does y last ey ln e p q =
+      does-on (p ∙ rw (ev, ey, en)) q (frame-words (O .ready) (xAt w (c .row)) (fits (O .ready) .x) (cellValue w k))
+      (λ m R.
+      Steps.open-on R (xAt w (c .row)) (yAt w (c .row)) (memberAt w (c .row)) k last (fits (O .ready) .x) (fits (O .ready) .y)
+      (omega (arith, ln, en)) (λ z. omega (arith, z, O .at-open)) here (walk-as w c v f _ n _ ev (O .field) en e))
+
+  pub open-walk-stops :
+      (s : Fault) → walkIn w v (λ _. true) f (suc (v .objects)) n 0 ≡ no (stopOf s) → Does w c w (Turn.Stopped s) (openHere w c)
+  open-walk-stops s e =
+      does-stop s
+      (λ m R. Steps.open-walk-stop R (xAt w (c .row)) (yAt w (c .row)) (memberAt w (c .row)) k s (fits (O .ready) .y) here (walk-as w c v f _ n _ ev (O .field) en e))
+
+-- `shut`
+module _ {w : List ℕ} {c : Machine} (ready : CanStep w c) (k : AtKind w c Shut) where
+  shut-fits : (xAt w (c .row) < frame-variables) × (memberAt w (c .row) < most-names)
+  unfolding statementNumber
+  shut-fits = (fits ready .x, fits ready .field (inr (inr k)))
+
+  pub shut-operands : (x f : ℕ) → x ≡ xAt w (c .row) → f ≡ memberAt w (c .row) → (x < frame-variables) × (f < most-names)
+  shut-operands x f ex ef = (omega (arith, shut-fits .0), omega (arith, shut-fits .1))
+
+  pub shut-stops :
+      (v : View) (x f : ℕ) (s : Fault) → v ≡ viewOf c → x ≡ xAt w (c .row) → f ≡ memberAt w (c .row) → spot w v 1 x f ≡ no (stopOf s) →
+      Does w c w (Turn.Stopped s) (shutHere w c)
+  shut-stops v x f s ev ex ef e =
+      does-stop s (λ m R. Steps.shut-stop R _ _ (shut-fits .0) (shut-fits .1) s (rw (← ev, ← ex, ← ef) e))
+
+pub shut-small : {w : List ℕ} {c : Machine} {f k : ℕ} → Shutting w c f k → k < heap-fields
+shut-small O = spot-small 1 _ _ (view-readable (O .ready) refl) (O .cell)
+
+module _ {w : List ℕ} {c : Machine} {f k : ℕ} (O : Shutting w c f k) where
+  at-member : Shutting w c (memberAt w (c .row)) k
+  at-member = subst (λ g. Shutting w c g k) (O .field) O
+
+  module _ (v : View) (n : ℕ) (ev : v ≡ viewOf c) (en : n ≡ cellValue w k) where
+    pub shut-walked :
+        (last : ℕ) → walkIn w v (λ _. true) f (suc (v .objects)) n 0 ≡ ok last → Walked w c k
+    shut-walked last e = record { shutting = at-member; last = last; walked = walk-as w c v f _ n _ ev (O .field) en e }
+
+    pub shut-walk-stops :
+        (s : Fault) → walkIn w v (λ _. true) f (suc (v .objects)) n 0 ≡ no (stopOf s) → Does w c w (Turn.Stopped s) (shutHere w c)
+    shut-walk-stops s e =
+        let l = shut-fits (O .ready) (O .at-shut) in
+        does-stop s (λ m R. Steps.shut-walk-stop R _ _ (l .0) (l .1) k (at-member .cell) s (walk-as w c v f _ n _ ev (O .field) en e))
+
+module _ {w : List ℕ} {c : Machine} {k : ℕ} (O : Walked w c k) where
+  shut-at : (xAt w (c .row) < frame-variables) × (memberAt w (c .row) < most-names)
+  shut-at = shut-fits (O .shutting .ready) (O .shutting .at-shut)
+
+  pub shut-does : {d : Machine} → 2 ≤ halvesAt w (c .holder) k → d ≡ stepped c (c .row + 1) → Does w c w (Turn.On d) (shutHere w c)
+  unfolding statementNumber
+  shut-does l q =
+      does-on refl q (same-refl w)
+      (λ m R.
+      Steps.shut-done R _ _ (shut-at .0) (shut-at .1) k (O .shutting .cell) (O .last) (O .walked)
+      (λ z. omega (arith, z, O .shutting .at-shut)) l)
+
+  pub shut-lacks : halvesAt w (c .holder) k < 2 → Does w c w (Turn.Stopped Fault.Permission) (shutHere w c)
+  shut-lacks l =
+      does-stop Fault.Permission
+      (λ m R. Steps.shut-half-stop R _ _ (shut-at .0) (shut-at .1) k (O .shutting .cell) (O .last) (O .walked) l)

@@ -1,32 +1,25 @@
 -- What the stores stand for stays where the stores are changed elsewhere.
-use mathlib.Core.Path.{_≡_, refl, sym, _∙_, subst}
-use mathlib.Core.Bool.{Bool, true, false, cond, _&&_}
+use mathlib.Core.Path.{_≡_, refl, sym, _∙_}
 use mathlib.Core.List.{List, [], _∷_}
 use mathlib.Core.Logic.{_⊎_, inl, inr, ⊎-elim}
 use mathlib.Core.Option.{Option, none, some}
-use Prim.Native.Nat.{ℕ, zero, suc, _+_, _≤_, _<_}
+use Prim.Native.Nat.{ℕ, _+_, _≤_, _<_}
 use native.Mathlib.Omega.{arith}
-use lib.Dec.{T, eqb, ltb}
+use lib.Dec.{T, eqb}
 use lib.ListN.{length}
-use borrow.Author.Tests.{ltb-true}
-use Rattle.rules.specs.Limits.{heap-objects, most-classes, most-statements}
+use Rattle.rules.specs.Limits.{most-statements}
 use Rattle.rules.specs.Base.{any}
 use Rattle.rules.specs.Machine.{Heap, Frame, Location, fieldsIn, object, valueAt}
-use Rattle.rules.proofs.Lists.{T-true, and-both}
-use Rattle.tables.specs.Layout.{objects-at, frames-at, frame-variables, most-names}
+use Rattle.tables.specs.Layout.{frame-variables}
 use Rattle.tables.specs.Decode.{fieldCountAt}
-use Rattle.tables.specs.Tables.{Tables, placeAt}
+use Rattle.tables.specs.Tables.{Tables}
 use Rattle.tables.specs.Stores.{SameTables}
-use Rattle.tables.proofs.Decoding.{rows-count-same, kind-same, methods-count-same, classes-count-same, field-count-same, place-same, ensures-same}
-use Rattle.run_heap.specs.Views.{frameAt, variableAt, savedHolder, savedRow, methodOf, cellValue, halvesAt, classIn, firstIn, placed, cellOf, halvesIn, halvesOf, ObjectFits}
+use Rattle.tables.proofs.Decoding.{rows-count-same, kind-same, methods-count-same, field-count-same, ensures-same}
+use Rattle.run_heap.specs.Views.{frameAt, variableAt, savedHolder, savedRow, methodOf, cellValue, halvesAt, classIn, cellOf, halvesIn, halvesOf, ObjectFits}
 use Rattle.run_steps.specs.States.{HeapIs, FrameIs, EnsuresIs, CallerIs, CallersAre}
 use Rattle.run_heap.proofs.Reading.{cell-small}
-use Rattle.run_footprint.proofs.Regions.{Only, variable-kept, saved-holder-kept, saved-row-kept, method-kept, class-in-kept, first-in-kept}
-
--- the rows of the first n objects are the same
-pub record SameObjects (n : ℕ) (w w′ : List ℕ) : Type 0 where
-  pub class : (i : ℕ) → i < n → classIn w′ i ≡ classIn w i
-  pub first : (i : ℕ) → i < n → firstIn w′ i ≡ firstIn w i
+use Rattle.run_footprint.proofs.Regions.{Only, variable-kept, saved-holder-kept, saved-row-kept, method-kept}
+use Rattle.run_footprint.proofs.Cells.{SameObjects, small-class, fits-kept, cell-kept}
 
 -- frame n is the same
 pub record SameFrame (n : ℕ) (w w′ : List ℕ) : Type 0 where
@@ -36,36 +29,6 @@ pub record SameFrame (n : ℕ) (w w′ : List ℕ) : Type 0 where
   pub method : methodOf w′ n ≡ methodOf w n
 
 module _ (w w′ : List ℕ) (same : SameTables w w′) (tables : Tables w) where
-  -- CELLS
-  small-class : (i most : ℕ) → ObjectFits w most i → classIn w i < most-classes
-  small-class i most O = omega (arith, O .class, tables .classes)
-
-  pub fits-kept :
-      (most i : ℕ) → classIn w′ i ≡ classIn w i → firstIn w′ i ≡ firstIn w i → ObjectFits w most i → ObjectFits w′ most i
-  fits-kept most i e f O =
-      let s : fieldCountAt w′ (classIn w i) ≡ fieldCountAt w (classIn w i) = field-count-same w w′ same (classIn w i) (small-class i most O) in
-      record {
-        class = rw (e, classes-count-same w w′ same) (O .class);
-        cells = rw (e, f, s) (O .cells);
-      }
-
-  pub cell-kept :
-      (n most o f : ℕ) → ((i : ℕ) → i < n → ObjectFits w most i) → SameObjects n w w′ → cellOf w′ n o f ≡ cellOf w n o f
-  unfolding cellOf
-  cell-kept n most zero f fit S = refl
-  cell-kept n most (suc i) f fit S = go (ltb i n && ltb f most-names) refl
-    where
-      go :
-          (b : Bool) → (ltb i n && ltb f most-names) ≡ b →
-          cond b (placed (firstIn w′ i) (placeAt w′ (classIn w′ i) f)) none ≡ cond b (placed (firstIn w i) (placeAt w (classIn w i) f)) none
-      go true t =
-          let (x, y) = and-both (ltb i n) (ltb f most-names) (subst T (sym t) tt) in
-          let l : i < n = ltb-true i n (T-true _ x) in
-          let p : placeAt w′ (classIn w i) f ≡ placeAt w (classIn w i) f =
-          place-same w w′ same (classIn w i) (small-class i most (fit i l)) f (ltb-true f most-names (T-true _ y)) in
-          rw (S .class i l, S .first i l, p)
-      go false t = refl
-
   halves-in-kept :
       (number : ℕ) (c : Option ℕ) → ((k : ℕ) → c ≡ some k → halvesAt w′ number k ≡ halvesAt w number k) →
       halvesIn w′ number c ≡ halvesIn w number c
@@ -78,7 +41,7 @@ module _ (w w′ : List ℕ) (same : SameTables w w′) (tables : Tables w) wher
       ((k : ℕ) → k < most → halvesAt w′ number k ≡ halvesAt w number k) → halvesOf w′ n number p ≡ halvesOf w n number p
   unfolding halvesOf
   halves-of-kept n most number p fit S h =
-      rw (cell-kept n most (p .object) (p .field) fit S)
+      rw (cell-kept w w′ same tables n most (p .object) (p .field) fit S)
       (halves-in-kept number _ (λ k e. h k (cell-small (p .object) (p .field) tables fit e)))
 
   -- FRAMES
@@ -142,13 +105,13 @@ module _ (w w′ : List ℕ) (same : SameTables w w′) (tables : Tables w) wher
         fields-count = g ∙ H .fields-count;
         most-objects = H .most-objects;
         most-fields = H .most-fields;
-        fit = λ i l. fits-kept fields i (S .class i l) (S .first i l) (H .fit i l);
+        fit = λ i l. fits-kept w w′ same tables fields i (S .class i l) (S .first i l) (H .fit i l);
         apart = λ i j l k.
             let s : fieldCountAt w′ (classIn w i) ≡ fieldCountAt w (classIn w i) =
-            field-count-same w w′ same (classIn w i) (small-class i fields (H .fit i (omega arith))) in
+            field-count-same w w′ same (classIn w i) (small-class w w′ same tables i fields (H .fit i (omega arith))) in
             rw (S .class i (omega arith), S .first i (omega arith), S .first j k, s) (H .apart i j l k);
-        value = λ o f k e. v o f k (sym (cell-kept objects fields o f (H .fit) S) ∙ e);
-        has = λ o f k e. s o f (H .has o f k (sym (cell-kept objects fields o f (H .fit) S) ∙ e));
+        value = λ o f k e. v o f k (sym (cell-kept w w′ same tables objects fields o f (H .fit) S) ∙ e);
+        has = λ o f k e. s o f (H .has o f k (sym (cell-kept w w′ same tables objects fields o f (H .fit) S) ∙ e));
         marks = m;
       }
 
@@ -161,14 +124,6 @@ module _ (w w′ : List ℕ) (same : SameTables w w′) (tables : Tables w) wher
       (λ o f k e. H .value o f k e ∙ sym (v k (cell-small o f tables (H .fit) e))) (λ o f t. t) m H
 
 -- ONE REGION CHANGES
-pub same-objects :
-    (a b : ℕ) (w w′ : List ℕ) (n : ℕ) → Only a b w w′ → (frames-at ≤ a) ⊎ (b ≤ objects-at) → n ≤ heap-objects → SameObjects n w w′
-same-objects a b w w′ n s o l =
-    record {
-      class = λ i h. class-in-kept a b w w′ s o i (omega arith);
-      first = λ i h. first-in-kept a b w w′ s o i (omega arith);
-    }
-
 pub same-frame : (a b : ℕ) (w w′ : List ℕ) (n : ℕ) → Only a b w w′ → (frameAt n + 72 ≤ a) ⊎ (b ≤ frameAt n) → SameFrame n w w′
 same-frame a b w w′ n s o =
     record {

@@ -1,4 +1,8 @@
+pub mod Sights
+pub mod Sums
+pub mod Ways
 pub mod Seeing
+pub mod Opening
 pub mod Keeping
 pub mod Moves
 pub mod Heaps

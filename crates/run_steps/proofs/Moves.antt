@@ -24,7 +24,8 @@ use Rattle.run_heap.specs.Views.{frameAt, variableAt, halvesOf, viewOf, readIn,
 use Rattle.run_footprint.specs.Footprints.{rightTest, testIn, takeIn}
 use Rattle.run_steps.specs.States.{FrameIs, Represents, Follows, atRow, stepped, NotEnd, AtKind, Chooses, Jumps, ifOn, loopOn, jumpHere}
 use Rattle.run_heap.proofs.Reading.{cell-small}
-use Rattle.run_steps.proofs.Seeing.{Sees, FormulaOk, cells-apart, value-is, no-footprint, ok-footprint, atoms-ok}
+use Rattle.run_steps.proofs.Sights.{Sees, cells-apart}
+use Rattle.run_steps.proofs.Seeing.{FormulaOk, value-is, no-footprint, ok-footprint, atoms-ok}
 
 -- FRAMES
 pub frame-jump :
@@ -98,6 +99,7 @@ module _ {w : List ℕ} {c : Machine} {m : Config} (R : Represents w c m) where
         values = running .values;
         held = running .held;
         cells = R .heap .value;
+        most = R .heap .most-objects;
         small = λ o f k e. cell-small o f (R .tables) fit e;
         apart = cells-apart (R .tables) (R .heap);
       }

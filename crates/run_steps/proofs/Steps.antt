@@ -1,28 +1,32 @@
--- The steps that stay in their frame: `let`, `add`, `sub`, `set`, `release`.
-use mathlib.Core.Path.{_≡_, refl, sym, ap₂, _∙_}
+-- The steps that stay in their frame: `let`, `add`, `sub`, `open`, `shut`, `set`, `release`.
+use mathlib.Core.Path.{_≡_, refl, sym, ap₂, _∙_, subst}
+use mathlib.Core.Bool.{true}
 use mathlib.Core.List.{List, []}
 use mathlib.Core.Logic.{inr}
-use Prim.Native.Nat.{ℕ, _+_, _*_, _-_, _≤_, _<_}
+use Prim.Native.Nat.{ℕ, suc, _+_, _*_, _-_, _≤_, _<_}
 use native.Mathlib.Omega.{arith}
 use lib.ListN.{length}
 use Rattle.rules.specs.Limits.{heap-fields}
 use Rattle.rules.specs.Base.{Try, ok, no, _>>=_}
 use Rattle.rules.specs.Answers.{Stop, overflow}
 use Rattle.rules.specs.Syntax.{Operation, Expr, Formula}
-use Rattle.rules.specs.Machine.{Frame, Location, Config, Step, halves, took, without, valueOf, advance, bind, holding, withFrame, stored, setStep, assignStep, computed, computeStep, releaseStep}
+use Rattle.rules.specs.Machine.{Frame, Location, Config, Step, halves, took, without, valueOf, advance, bind, holding, withFrame, stored, setStep, assignStep, computed, computeStep, releaseStep, openStep, shutStep}
 use Rattle.rules.specs.declared.Machine.{Machine}
-use Rattle.rules.proofs.Sets.{halves-without, footprint-held}
-use Rattle.tables.specs.Layout.{frame-variables, values-at, holders-at, objects-at, frames-at}
+use Rattle.rules.proofs.Sets.{halves-without}
+use Rattle.rules.proofs.Footprints.{footprint-held}
+use Rattle.tables.specs.Layout.{most-names, frame-variables, values-at, holders-at, objects-at, frames-at}
 use Rattle.tables.specs.Decode.{rowCount, kindAt}
 use Rattle.tables.specs.Tables.{SideFits}
 use Rattle.tables.specs.Stores.{SameTables, putWord}
 use Rattle.tables.proofs.Decoding.{tables-same, rows-count-same, kind-same}
 use Rattle.run_heap.specs.declared.Fault.{Fault}
 use Rattle.run_steps.specs.declared.Turn.{Turn}
-use Rattle.run_heap.specs.Views.{frameAt, variableAt, halvesOf, spot, readIn, viewOf, stopOf}
-use Rattle.run_footprint.specs.Footprints.{takeIn, marked}
+use Rattle.run_heap.specs.Views.{frameAt, variableAt, cellValue, halvesAt, halvesOf, spot, readIn, viewOf, stopOf}
+use Rattle.run_heap.specs.Chains.{walkIn}
+use Rattle.run_footprint.specs.Footprints.{spread, takeIn, marked}
 use Rattle.run_steps.specs.States.{FrameIs, Represents, Follows, stepped, NotEnd}
 use Rattle.run_steps.proofs.Seeing.{Matches, FormulaOk, locate-at, locate-no, value-is, no-footprint, ok-footprint}
+use Rattle.run_steps.proofs.Opening.{open-done, open-walk, open-no, shut-no, shut-walk, shut-half, shut-on}
 use Rattle.run_footprint.proofs.Regions.{Only, only-word, only-tables}
 use Rattle.run_steps.proofs.Keeping.{same-frame, ensures-kept, callers-kept}
 use Rattle.run_steps.proofs.Moves.{sees, moved-on, follow-stop, follow-on}
@@ -111,6 +115,47 @@ module _ {w : List ℕ} {c : Machine} {m : Config} (R : Represents w c m) where
     unfolding computeStep stopOf
     compute-stop r = bound-stop x _ Fault.Overflow (computed-is ∙ r)
 
+  -- `open`
+  pub open-on :
+      (y x f k last : ℕ) → y < frame-variables → x < frame-variables → cellValue w k < 4294967296 → NotEnd w c →
+      spot w (viewOf c) 2 x f ≡ ok k → walkIn w (viewOf c) (λ _. true) f (suc (c .objects)) (cellValue w k) 0 ≡ ok last →
+      Follows (putWord w (frameAt (c .frames - 1) + y * 4) (cellValue w k)) c (Turn.On (stepped c (c .row + 1))) m (took (openStep y x f m))
+  unfolding _>>=_
+  open-on y x f k last ly lx lv n e q =
+      subst (λ t. Follows (putWord w (frameAt (c .frames - 1) + y * 4) (cellValue w k)) c (Turn.On (stepped c (c .row + 1))) m (took t))
+      (sym (open-done m (sees R) x f lx y k last e q)) (bound-on y (ok (cellValue w k)) (cellValue w k) ly lv n refl)
+
+  pub open-stop :
+      (y x f : ℕ) (s : Fault) → x < frame-variables → spot w (viewOf c) 2 x f ≡ no (stopOf s) →
+      Follows w c (Turn.Stopped s) m (took (openStep y x f m))
+  open-stop y x f s lx e = follow-stop R s _ (open-no m (sees R) x f lx y (stopOf s) e)
+
+  pub open-walk-stop :
+      (y x f k : ℕ) (s : Fault) → x < frame-variables → spot w (viewOf c) 2 x f ≡ ok k →
+      walkIn w (viewOf c) (λ _. true) f (suc (c .objects)) (cellValue w k) 0 ≡ no (stopOf s) →
+      Follows w c (Turn.Stopped s) m (took (openStep y x f m))
+  open-walk-stop y x f k s lx e q = follow-stop R s _ (open-walk m (sees R) x f lx y k (stopOf s) e q)
+
+  -- `shut`
+  module _ (x f : ℕ) (lx : x < frame-variables) (lf : f < most-names) where
+    pub shut-stop : (s : Fault) → spot w (viewOf c) 1 x f ≡ no (stopOf s) → Follows w c (Turn.Stopped s) m (took (shutStep x f m))
+    shut-stop s e = follow-stop R s _ (shut-no m (sees R) x f lx lf (stopOf s) e)
+
+    module _ (k : ℕ) (e : spot w (viewOf c) 1 x f ≡ ok k) where
+      pub shut-walk-stop :
+          (s : Fault) → walkIn w (viewOf c) (λ _. true) f (suc (c .objects)) (cellValue w k) 0 ≡ no (stopOf s) →
+          Follows w c (Turn.Stopped s) m (took (shutStep x f m))
+      shut-walk-stop s q = follow-stop R s _ (shut-walk m (sees R) x f lx lf k (stopOf s) e q)
+
+      module _ (last : ℕ) (q : walkIn w (viewOf c) (λ _. true) f (suc (c .objects)) (cellValue w k) 0 ≡ ok last) where
+        pub shut-half-stop : halvesAt w (c .holder) k < 2 → Follows w c (Turn.Stopped Fault.Permission) m (took (shutStep x f m))
+        unfolding stopOf
+        shut-half-stop l = follow-stop R Fault.Permission _ (shut-half m (sees R) x f lx lf k last e q l)
+
+        pub shut-done :
+            NotEnd w c → 2 ≤ halvesAt w (c .holder) k → Follows w c (Turn.On (stepped c (c .row + 1))) m (took (shutStep x f m))
+        shut-done n l = follow-on R _ _ _ (shut-on m (sees R) x f lx lf k last e q l) refl (moved-on R n)
+
   -- `set`
   pub set-on :
       (x f y k v : ℕ) → x < frame-variables → y < frame-variables → v < 4294967296 → NotEnd w c →
@@ -171,13 +216,14 @@ module _ {w : List ℕ} {c : Machine} {m : Config} (R : Represents w c m) where
 
   pub release-on :
       (φ : Formula ℕ) (ss : List ℕ) → FormulaOk φ → NotEnd w c → takeIn w (viewOf c) φ [] ≡ ok ss →
-      Follows (marked w ss (c .holder) 0) c (Turn.On (stepped c (c .row + 1))) m (took (releaseStep φ m))
+      Follows (marked w (spread w (c .objects) ss) (c .holder) 0) c (Turn.On (stepped c (c .row + 1))) m (took (releaseStep φ m))
   unfolding releaseStep _>>=_ withFrame advance holding
   release-on φ ss l n e =
+      let rs : List ℕ = spread w (c .objects) ss in
       let (A, a, M) = ok-footprint (sees R) φ ss l e in
-      let t : SameTables w (marked w ss (c .holder) 0) = marks-tables R A ss 0 M in
+      let t : SameTables w (marked w rs (c .holder) 0) = marks-tables R A rs 0 M in
       follow-on R _ _ _ (rw a) refl
-      (moved-on (released A ss M (footprint-held (m .heap) (m .frame) φ A a)) (λ z. n (sym (kind-kept (marked w ss (c .holder) 0) t) ∙ z)))
+      (moved-on (released A rs M (footprint-held (m .heap) (m .frame) φ A a)) (λ z. n (sym (kind-kept (marked w rs (c .holder) 0) t) ∙ z)))
 
   pub release-stop :
       (φ : Formula ℕ) (f : Fault) → FormulaOk φ → takeIn w (viewOf c) φ [] ≡ no (stopOf f) →

@@ -1,6 +1,6 @@
 -- Which state of the definitions the stores and the counters stand for, and what a step of the code does.
 use mathlib.Core.Path.{_≡_}
-use mathlib.Core.Bool.{cond}
+use mathlib.Core.Bool.{true, cond}
 use mathlib.Core.List.{List, [], _∷_}
 use mathlib.Core.Logic.{_⊎_}
 use mathlib.Core.Option.{some}
@@ -8,17 +8,18 @@ use Prim.Native.Nat.{ℕ, suc, _+_, _-_, _*_, _≤_, _<_}
 use lib.Dec.{T, eqb}
 use lib.ListN.{length}
 use Rattle.rules.specs.Limits.{heap-objects, heap-fields, most-frames}
-use Rattle.rules.specs.Base.{any}
-use Rattle.rules.specs.Grammar.{Statement, Call, If, Else, End, Loop, Again, statementNumber}
+use Rattle.rules.specs.Base.{ok, any}
+use Rattle.rules.specs.Grammar.{Statement, Call, If, Else, End, Loop, Again, Open, Shut, statementNumber}
 use Rattle.rules.specs.Machine.{Heap, Frame, Location, Config, Step, halves, fieldsIn, valueAt, object, valueOf, on, stop, done, took}
-use Rattle.rules.specs.Machine.{setStep, assignStep, computeStep, assertStep, releaseStep, ifStep, elseStep, loopStep, againStep}
+use Rattle.rules.specs.Machine.{setStep, assignStep, computeStep, assertStep, releaseStep, openStep, shutStep, ifStep, elseStep, loopStep, againStep}
 use Rattle.rules.specs.declared.Machine.{Machine}
 use Rattle.tables.specs.Layout.{frame-variables}
 use Rattle.tables.specs.Decode.{rowCount, operationOf, kindAt, xAt, yAt, zAt, memberAt, firstAtomAt, formulaAt, atomPlace, byteAt, relOf, leftAt, rightAt, allRows, methodCount, ensuresAt, fieldCountAt}
 use Rattle.tables.specs.Tables.{Tables}
 use Rattle.tables.specs.Stores.{SameTables}
 use Rattle.run_steps.specs.declared.Turn.{Turn}
-use Rattle.run_heap.specs.Views.{frameAt, variableAt, savedHolder, savedRow, methodOf, cellValue, halvesAt, classIn, firstIn, cellOf, halvesOf, ObjectFits, stopOf}
+use Rattle.run_heap.specs.Views.{frameAt, variableAt, savedHolder, savedRow, methodOf, cellValue, halvesAt, classIn, firstIn, cellOf, halvesOf, spot, viewOf, whole, ObjectFits, stopOf}
+use Rattle.run_heap.specs.Chains.{walkIn}
 
 -- so many objects with so many fields stand for the heap; no half of a cell is with a number above `holders`
 pub record HeapIs (w : List ℕ) (objects fields holders : ℕ) (h : Heap) : Type 0 where
@@ -147,6 +148,32 @@ assertHere w c m = took (assertStep (formulaAt w (c .row)) m)
 
 abbrev pub releaseHere : List ℕ → Machine → Config → Step
 releaseHere w c m = took (releaseStep (formulaAt w (c .row)) m)
+
+abbrev pub openHere : List ℕ → Machine → Config → Step
+openHere w c m = took (openStep (xAt w (c .row)) (yAt w (c .row)) (memberAt w (c .row)) m)
+
+abbrev pub shutHere : List ℕ → Machine → Config → Step
+shutHere w c m = took (shutStep (xAt w (c .row)) (memberAt w (c .row)) m)
+
+-- `open` where the location of `x.f` is held whole: the cell k
+pub record Opening (w : List ℕ) (c : Machine) (f k : ℕ) : Type 0 where
+  pub ready : CanStep w c
+  pub at-open : AtKind w c Open
+  pub field : f ≡ memberAt w (c .row)
+  pub cell : spot w (viewOf c) whole (yAt w (c .row)) f ≡ ok k
+
+-- `shut` where half of it is
+pub record Shutting (w : List ℕ) (c : Machine) (f k : ℕ) : Type 0 where
+  pub ready : CanStep w c
+  pub at-shut : AtKind w c Shut
+  pub field : f ≡ memberAt w (c .row)
+  pub cell : spot w (viewOf c) 1 (xAt w (c .row)) f ≡ ok k
+
+-- and the chain of its value too
+pub record Walked (w : List ℕ) (c : Machine) (k : ℕ) : Type 0 where
+  pub shutting : Shutting w c (memberAt w (c .row)) k
+  pub last : ℕ
+  pub walked : walkIn w (viewOf c) (λ _. true) (memberAt w (c .row)) (suc (c .objects)) (cellValue w k) 0 ≡ ok last
 
 -- with the condition that is the atom a
 abbrev pub ifOn : List ℕ → ℕ → Config → Step

@@ -1,4 +1,8 @@
-// Which state the stores stand for; the steps that stay in their frame.
+// Which state the stores stand for; the steps that stay in their frame. `open` and `shut` are in `chains`.
+mod chains;
+
+pub use chains::open_step;
+pub use chains::shut_step;
 use rules::Machine;
 use run_footprint::Shares;
 use run_footprint::Took;
@@ -78,7 +82,7 @@ pub fn release_step(work: &mut [u8], c: Machine) -> Turn
     let mut shares = [0usize; run_footprint::SHARES];
     match row_footprint(work, c, &mut shares) {
         Took::Shares(n) => {
-            run_footprint::mark(work, &shares, n, c.holder, NOBODY);
+            run_footprint::mark(work, run_heap::view_of(c), &shares, n, NOBODY);
             Turn::On(next(c, c.row + 1))
         }
         Took::Lacking(s) => Turn::Stopped(s),

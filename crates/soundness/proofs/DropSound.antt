@@ -6,28 +6,29 @@ use mathlib.Core.Logic.{_⊎_, ⊎-elim}
 use mathlib.Core.Option.{some}
 use Prim.Native.Nat.{ℕ}
 use lib.Dec.{T}
-use Rattle.rules.specs.Base.{any, mapOption, Member}
+use Rattle.rules.specs.Base.{any, keep, mapOption, Member}
 use Rattle.rules.specs.Syntax.{num, null, var, path}
-use Rattle.rules.specs.State.{Term, Permission, Fact, State, Renaming, entry, pathOf, equalIn, becomes, renameFact, trivial, renameFacts, lists, withoutPaths, factsWithout}
+use Rattle.rules.specs.State.{Term, Permission, Fact, State, Renaming, entry, pathOf, equalIn, becomes, renameFact, trivial, renameFacts, paths, lists, withoutPaths, factsWithout}
 use Rattle.rules.specs.Machine.{Frame, Heap}
 use Rattle.rules.proofs.Lists.{keep-member, came-from, bind-some, some-inj}
-use Rattle.rules.proofs.Successors.{Known, order-known, entry-listed, listed-entry, successor-is, gives-way, without-is}
+use Rattle.rules.specs.Reached.{Known}
+use Rattle.rules.proofs.Successors.{order-known, entry-listed, listed-entry, successor-is, gives-way, without-is}
 use Rattle.soundness.proofs.Satisfied.{termValue, Listed, Reads, FactTrue, Satisfied, related-by}
 use Rattle.soundness.proofs.ShowSound.{equal-value}
 
 -- a listed path, by the checker's test
 pub reads-listed : (ps : List Permission) (x f : ℕ) → Listed ps x f → T (lists ps (path x f))
 unfolding pathOf
-reads-listed ps x f (k, i) = entry-listed ps (entry k x f) i
+reads-listed ps x f (k, t, i) = entry-listed ps (entry k x f) i t
 
 pub listed-reads : (ps : List Permission) (x f : ℕ) → T (lists ps (path x f)) → Listed ps x f
 unfolding pathOf
 listed-reads ps x f h =
-    let (p, i, e) = listed-entry ps (path x f) h in
+    let (p, i, t, e) = listed-entry ps (path x f) h in
     let a : p .variable ≡ x = cc in
     let b : p .field ≡ f = cc in
     let is : p ≡ entry (p .permit) x f = λ i. record { permit = p .permit; variable = a i; field = b i } in
-    (p .permit, subst (λ (q : Permission). Member q ps) is i)
+    (p .permit, t, subst (λ (q : Permission). Member q ps) is i)
 
 known-reads : (ps : List Permission) (t : Term) → Known ps t → Reads ps t
 known-reads ps (num n) k = tt
@@ -102,7 +103,7 @@ module _ (h h′ : Heap) (F : Frame) (s : State) (S : Satisfied h F s) (ps : Lis
       (gone : List Permission) → ((x f : ℕ) → Listed (s .permissions) x f → Listed ps x f ⊎ T (lists gone (path x f))) →
       ((u : Term) → (T (lists gone u) → ⊥) → Reads ps u → termValue h′ F u ≡ termValue h F u) → (g : Fact) →
       Member g (factsWithout gone ps s) → FactTrue h′ F ps g
-  unfolding factsWithout lists any
+  unfolding factsWithout lists paths keep any
   paths-dropped [] all value g i = fact-left [] all value g (λ t z. z) (S .knows .facts g i)
   paths-dropped (p ∷ gone) all value g i =
       facts-became h h′ F F s S (withoutPaths (p ∷ gone)) ps (left-term (p ∷ gone) all value)

@@ -11,7 +11,7 @@ use Rattle.rules.specs.Base.{Name, between, Member}
 use Rattle.rules.specs.Base as Base
 use Rattle.rules.specs.Syntax.{result-variable}
 use Rattle.rules.specs.Grammar.{Kind, Stage, Line, form, afterHeader, afterRequires, afterMethod, afterMain}
-use Rattle.rules.specs.Grammar.{Class, Field, Method, Requires, Ensures, Main, Var, Statement, statement, Set, Let, New, Call, Return, Assert, Release, If, Else, Join, End, Add, Sub, Loop, Again}
+use Rattle.rules.specs.Grammar.{Class, Field, Method, Requires, Ensures, Main, Var, Statement, statement, Set, Let, New, Call, Return, Assert, Release, If, Else, Join, End, Add, Sub, Loop, Again, Open, Shut}
 use Rattle.rules.specs.Grammar as Grammar
 use Rattle.rules.specs.Places.{Place, firstPlace, stageNumber, inPlace, placeAfter, stageAfter}
 use Rattle.rules.specs.Places as Places
@@ -22,7 +22,7 @@ use Rattle.rules.specs.Items as Items
 use Rattle.rules.proofs.Lists.{head-or, append-member, and-both, and-intro}
 use Rattle.soundness.specs.WellFormed.{Over, AtCall, AtEnd, StmtFormed}
 use Rattle.rules.proofs.LinesTaken.{lineOf, Taken, TakenLines, TakenText, none, line}
-use Rattle.soundness.proofs.NamesInScope.{assigned-local, target-apart, formula-over}
+use Rattle.soundness.proofs.NamesInScope.{assigned-local, target-apart, opened-apart, formula-over}
 
 -- what WellFormed asks of an item by itself
 abbrev pub ItemFormed : Item → Type 0
@@ -110,6 +110,9 @@ module _ (text : List Line) (p : Place) (s : Scope) where
   statement-formed Sub ws t = (assigned-local _ _ 0 (lit< tt) refl (t .formed) (t .assignable), absurd)
   statement-formed Loop ws t = (tt, absurd)
   statement-formed Again ws t = (tt, absurd)
+  statement-formed Open ws t =
+      ((assigned-local _ _ 0 (lit< tt) refl (t .formed) (t .assignable), opened-apart _ _ tt (t .assignable)), absurd)
+  statement-formed Shut ws t = (tt, absurd)
 
   line-formed :
       (k : Kind) (ws : List Name) → Taken text p s (lineOf k ws) → HeaderAt (p .stage) (s .block) →

@@ -11,6 +11,7 @@ pub mod AssignSound
 pub mod SetSound
 pub mod NewSound
 pub mod AssertSound
+pub mod ChainSound
 pub mod BranchSound
 pub mod LoopSound
 pub mod CallSound
@@ -27,5 +28,7 @@ pub mod Refusing
 pub mod RulesRefuse
 pub mod ReadRefuses
 pub mod RequiresAdded
+pub mod RowsNamed
+pub mod ReachedFormed
 pub mod RefusedAtALine
 pub mod Demand3

@@ -10,7 +10,7 @@ use Rattle.rules.specs.State.{Permission, State, show}
 use Rattle.rules.specs.Rules.{Open, inLoop}
 use Rattle.rules.specs.Machine.{Config, valueOf, footprint, openAfter, openAt, loopOf, jump, withFrame, took, ifStep, loopStep, againStep}
 use Rattle.rules.proofs.Tries.{bind-of-ok}
-use Rattle.rules.proofs.Sets.{footprint-held}
+use Rattle.rules.proofs.Footprints.{footprint-held}
 use Rattle.soundness.proofs.Satisfied.{Satisfied, satisfied-frame}
 use Rattle.soundness.proofs.ShowSound.{AtMostTwo, show-sound}
 use Rattle.soundness.proofs.AddSound.{add-empty}

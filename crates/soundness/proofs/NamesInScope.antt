@@ -1,5 +1,5 @@
 -- What the tests of a line's names say of the numbers that these names get.
-use mathlib.Core.Path.{_≡_, subst}
+use mathlib.Core.Path.{_≡_, refl, subst}
 use mathlib.Core.Bool.{Bool, true, false, not, cond, _&&_}
 use mathlib.Core.List.{List, [], _∷_, map}
 use mathlib.Core.Logic.{⊎-elim}
@@ -7,15 +7,16 @@ use Prim.Native.Nat.{ℕ, zero, suc, _≤_, _<_}
 use native.Mathlib.Omega.{arith}
 use lib.Dec.{T, T-not, eqb, eqb-refl, leb, leb→le}
 use lib.ListN.{length, getD}
-use Rattle.rules.specs.Base.{Name, eqName, any, all, Member}
+use Rattle.rules.specs.Base.{Name, bytes, is, eqName, any, all, Member}
+use Rattle.rules.specs.Base as Base
 use Rattle.rules.specs.Syntax.{Expr, Formula, first-local, num, null, var, path, own, cmp}
-use Rattle.rules.specs.Text.{reserved, relOf, isPermit, permitOf, exprOf, atomOf, formulaOf}
-use Rattle.rules.specs.Grammar.{Space, Operand, Tail, Line, statement, Call, form, isKind, isOperand, isFormed}
+use Rattle.rules.specs.Text.{reserved, isRel, relOf, isPermit, permitOf, exprOf, atomOf, formulaOf}
+use Rattle.rules.specs.Grammar.{Space, Use, Operand, Tail, Line, statement, Call, Open, form, isKind, isOperand, isFormed}
 use Rattle.rules.specs.Grammar.{read, assigned, field, new, typeName, variable, member, expression}
 use Rattle.rules.specs.Scope.{Declarations, Variable, Scope, Slot, operand, declaredIn, slotsFrom, atomOperands, atomSlots, atomsOf, slots}
-use Rattle.rules.specs.Names.{noVariable, isLocal, inScope, lookUp, variableNumber, knownExpr, known, allKnown, mayBeAssigned, callApart, allAssignable}
+use Rattle.rules.specs.Names.{noVariable, isLocal, inScope, lookUp, variableNumber, knownExpr, known, allKnown, mayBeAssigned, callApart, openApart, allAssignable}
 use Rattle.rules.specs.Items.{resolveExpr, resolveAtom, resolveAtoms, resolveFormula}
-use Rattle.rules.proofs.Lists.{any-in, or-cases, and-both, all-append, first-member, name-same}
+use Rattle.rules.proofs.Lists.{any-in, or-cases, and-both, all-append, first-member, name-same, same-name}
 use Rattle.soundness.specs.WellFormed.{TermOver, Over}
 use Rattle.rules.proofs.LinesTaken.{HasForm}
 
@@ -64,9 +65,11 @@ unequal a b t e = T-not (eqb a b) t (subst (λ w. T (eqb a w)) e (eqb-refl a))
 
 module _ (vs : List Variable) (l : Line) where
   assignable-both :
-      T (allAssignable vs l) → T (all (assignableSlot vs) (slots l)) × T (callApart vs l)
+      T (allAssignable vs l) → T (all (assignableSlot vs) (slots l)) × T (callApart vs l) × T (openApart vs l)
   unfolding allAssignable
-  assignable-both t = and-both (all (assignableSlot vs) (slots l)) (callApart vs l) t
+  assignable-both t =
+      let (a, b) = and-both (all (assignableSlot vs) (slots l)) _ t in
+      let (c, d) = and-both (callApart vs l) (openApart vs l) b in (a, c, d)
 
   -- an operand that is assigned is a local
   pub assigned-local :
@@ -90,6 +93,24 @@ module _ (vs : List Variable) (l : Line) where
       ⊎-elim (λ n. absurd (T-not (isKind (statement Call) (l .kind)) n c))
       (λ d. let (y, z) = and-both (not (eqb x (variableNumber vs (operand l 1)))) _ d in (unequal x _ y, unequal x _ z))
       (or-cases (not (isKind (statement Call) (l .kind))) _ (assignable-both t .1))
+
+  -- the y of `open` is not its x
+  pub opened-apart :
+      T (isKind (statement Open) (l .kind)) → T (allAssignable vs l) →
+      variableNumber vs (operand l 0) ≡ variableNumber vs (operand l 1) → ⊥
+  unfolding openApart
+  opened-apart c t =
+      ⊎-elim (λ n. absurd (T-not (isKind (statement Open) (l .kind)) n c)) (λ d. unequal _ _ d)
+      (or-cases (not (isKind (statement Open) (l .kind))) _ (assignable-both t .2))
+
+-- a word that compares has two expressions
+compares : (w : Name) → T (isRel w) → atomOperands w ≡ expression ∷ expression ∷ []
+unfolding atomOperands isPermit isRel Base.opened
+compares w r =
+    ⊎-elim
+    (λ e. subst (λ (w : Name). atomOperands w ≡ expression ∷ expression ∷ []) (same-name (bytes "eq") w e) refl)
+    (λ e. subst (λ (w : Name). atomOperands w ≡ expression ∷ expression ∷ []) (same-name (bytes "ne") w e) refl)
+    (or-cases (is "eq" w) (is "ne" w) r)
 
 -- FORMULAS: where each variable in scope has a number with the property Q, so have those of a formula whose names are known
 module _ (Γ : Declarations) (vs : List Variable) (Q : ℕ → Type 0) (has : (v : Variable) → Member v vs → Q (v .number)) where
@@ -136,3 +157,40 @@ module _ (Γ : Declarations) (vs : List Variable) (Q : ℕ → Type 0) (has : (v
     formula-over l h =
         atoms-over (atomsOf l)
         (all-append (knownSlot Γ vs s) (slotsFrom [] (form (l .kind) .operands) (l .fields)) (atomSlots (atomsOf l)) h .1)
+
+    -- OPERANDS
+    pub variable-over :
+        (l : Line) (i : ℕ) (u : Use) → i < length (form (l .kind) .operands) → getD (form (l .kind) .operands) i typeName ≡ variable u →
+        HasForm l → T (allKnown Γ vs s l) → Q (variableNumber vs (operand l i))
+    unfolding allKnown known
+    variable-over l i u b e f h =
+        let (v, k) = operand-passes (knownSlot Γ vs s) l i b f h in
+        number-has (operand l i) (subst (λ o. T (known Γ vs s o v (operand l i))) e k)
+
+    pub expression-over :
+        (l : Line) (i : ℕ) → i < length (form (l .kind) .operands) → getD (form (l .kind) .operands) i typeName ≡ expression →
+        HasForm l → T (allKnown Γ vs s l) → TermOver Q (resolveExpr Γ vs (exprOf (operand l i)))
+    unfolding allKnown known
+    expression-over l i b e f h =
+        let (v, k) = operand-passes (knownSlot Γ vs s) l i b f h in
+        expr-over (exprOf (operand l i)) (subst (λ o. T (known Γ vs s o v (operand l i))) e k)
+
+    -- A CONDITION, and the atoms after it
+    sides-over :
+        (w a b : Name) → atomOperands w ≡ expression ∷ expression ∷ [] →
+        T (all (knownSlot Γ vs s) (slotsFrom [] (atomOperands w) (a ∷ b ∷ []))) →
+        TermOver Q (resolveExpr Γ vs (exprOf a)) × TermOver Q (resolveExpr Γ vs (exprOf b))
+    unfolding all slotsFrom known
+    sides-over w a b e h =
+        let g = subst (λ (os : List Operand). T (all (knownSlot Γ vs s) (slotsFrom [] os (a ∷ b ∷ [])))) e h in
+        let (x, y) = and-both (knownExpr Γ vs (exprOf a)) _ g in
+        (expr-over (exprOf a) x, expr-over (exprOf b) (and-both (knownExpr Γ vs (exprOf b)) _ y .0))
+
+    pub condition-over :
+        (w a b : Name) (ws : List Name) → T (isRel w) → T (all (knownSlot Γ vs s) (atomSlots (w ∷ a ∷ b ∷ ws))) →
+        TermOver Q (resolveExpr Γ vs (exprOf a)) × TermOver Q (resolveExpr Γ vs (exprOf b))
+        × Over Q (map (resolveAtom Γ vs) (formulaOf ws))
+    unfolding atomSlots
+    condition-over w a b ws r h =
+        let (x, y) = all-append (knownSlot Γ vs s) (slotsFrom [] (atomOperands w) (a ∷ b ∷ [])) (atomSlots ws) h in
+        let (u, v) = sides-over w a b (compares w r) x in (u, v, atoms-over ws y)

@@ -9,11 +9,12 @@ use native.Mathlib.Omega.{arith}
 use lib.Dec.{T, eqb, eqb→eq, eqb-refl}
 use lib.ListN.{replicate}
 use Rattle.rules.specs.Base.{mapOption, bindOption}
-use Rattle.rules.specs.Syntax.{Permit, acc, read, num, null, var, path}
+use Rattle.rules.specs.Syntax.{Permit, acc, read, chain, num, null, var, path}
 use Rattle.rules.specs.State.{Term, Permission, State, entry, renameVariable, renameTerm, renamePermission, renamePermissions, standIn, removedTerm, removeTo, remove}
 use Rattle.rules.specs.Machine.{Frame, Heap, Location, halves, valueAt, valueOf, bind}
 use Rattle.rules.proofs.Lists.{some-inj, bind-some, option-cases, mapOption-none, mapOption-some, went-to, update-same, update-other}
 use Rattle.rules.proofs.Sets.{location-eq}
+use Rattle.rules.specs.Runs.{Walk}
 use Rattle.rules.proofs.Dropping.{standIn-is}
 use Rattle.soundness.proofs.Satisfied.{termValue, locationOf, Stock, OwnsPath, OwnsAs, Stocked, Reads, Knows, Satisfied}
 use Rattle.soundness.proofs.ShowSound.{equal-variable}
@@ -68,6 +69,13 @@ module _ (h : Heap) (F G : Frame) (x : ℕ) (to : Option ℕ)
       (k : Permit) (p q : Permission) (a : Stock) → renamePermission x to p ≡ some q → OwnsAs k h F p a → OwnsAs k h G q a
   renamed-owned acc p q a e O = renamed-path 2 p q a e O
   renamed-owned read p q a e O = renamed-path 1 p q a e O
+  renamed-owned chain p q a e O =
+      let is : locationOf G q ≡ locationOf F p = renamed-location p q e in
+      record {
+        walk-of = O .walk-of;
+        is-walk = subst (λ (l : Location). Walk h (l .field) (l .object) (O .walk-of)) (sym is) (O .is-walk);
+        amount = O .amount;
+      }
 
   -- what goes owned something
   renamed-stocked :
@@ -99,10 +107,11 @@ module _ (h : Heap) (F G : Frame) (x : ℕ) (to : Option ℕ)
   renamed-reads ps null u e r = subst (Reads _) (some-inj e) tt
   renamed-reads ps (var v) u e r =
       let (w, m, q) = bind-some (renameVariable x to v) _ u e in subst (Reads _) (some-inj q) tt
-  renamed-reads ps (path v f) u e (k, i) =
+  renamed-reads ps (path v f) u e (k, t, i) =
       let (w, m, q) = bind-some (renameVariable x to v) _ u e in
       subst (Reads _) (some-inj q) (
         k,
+        t,
         went-to (renamePermission x to) ps (entry k v f) (entry k w f)
             (ap (λ (o : Option ℕ). bindOption o (λ w. some (entry k w f))) m) i,
       )

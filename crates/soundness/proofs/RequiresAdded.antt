@@ -11,10 +11,10 @@ use lib.ListN.{length, length-append}
 use Rattle.rules.specs.Base.{Name, Try, ok, _>>=_, orElse, bindOption, Member, at-head}
 use Rattle.rules.specs.Limits.{most-atoms, most-permissions, most-facts}
 use Rattle.rules.specs.Answers.{Refusal, stateFull}
-use Rattle.rules.specs.Syntax.{Rel, Permit, Formula, num, null, var, path, acc, read, own, cmp}
+use Rattle.rules.specs.Syntax.{Rel, Permit, Formula, num, null, var, path, acc, read, chain, isPath, own, cmp}
 use Rattle.rules.specs.Text.{isAtom, isFormula, formulaOf}
 use Rattle.rules.specs.Reading.{Access, framedExpr, framed}
-use Rattle.rules.specs.State.{Term, Fact, State, Permission, Equality, Split, empty, entry, pathOf, names, equalIn, resolve, split, withPermit, joining, joins, addRead, addOwn, addPermission, addFact, add}
+use Rattle.rules.specs.State.{Term, Fact, State, Permission, Equality, Split, empty, entry, pathOf, entryOf, names, equalIn, resolve, split, withPermit, joining, joins, addRead, addOwn, addPermission, addFact, add}
 use Rattle.rules.proofs.Lists.{head-or, member-left, member-right, in-any, first-some, and-both, and-intro, some-inj, none-some, bind-some}
 use Rattle.rules.proofs.Tries.{bind-of-ok, pass}
 use Rattle.rules.proofs.Closure.{Linked, itself, listed, back, onward, equalIn-sound, equalIn-complete}
@@ -31,13 +31,19 @@ linked-more fs gs m (onward k l) = onward (linked-more fs gs m k) (linked-more f
 names-more :
     (s s′ : State) → ((f : Fact) → Member f (s .facts) → Member f (s′ .facts)) → (y f : ℕ) (p : Permission) →
     T (names (equalIn s) y f p) → T (names (equalIn s′) y f p)
-unfolding names
+unfolding names entryOf
 names-more s s′ m y f p h =
-    let (a, b) = and-both (eqb (p .field) f) _ h in
-    and-intro (eqb (p .field) f) _ a
-    (equalIn-complete s′ _ _ (linked-more (s .facts) (s′ .facts) m (equalIn-sound s _ _ b)))
+    let (t, g) = and-both (isPath (p .permit)) _ h in
+    let (a, b) = and-both (eqb (p .field) f) _ g in
+    and-intro (isPath (p .permit)) _ t
+    (and-intro (eqb (p .field) f) _ a
+    (equalIn-complete s′ _ _ (linked-more (s .facts) (s′ .facts) m (equalIn-sound s _ _ b))))
 
 -- THE PATHS OF A FRAMED FORMULA RESOLVE
+-- what stands before the next atom: a chain is no listed path
+abbrev With : Permit → ℕ → ℕ → List Access → List Access
+With k x f before = cond (isPath k) (record { variable = x; field = f } ∷ before) before
+
 -- each access that stands before in the line is listed, perhaps by another name
 abbrev Covered : List Access → State → Type 0
 Covered before s =
@@ -97,14 +103,23 @@ fact-adds n before s C S l r t u =
       small = record { entries = omega (arith, S .entries); known = omega (arith, S .known, length-append (s .facts) (f ∷ [])) };
     }
 
--- an entry by its own name
-names-itself : (s : State) (k : Permit) (x f : ℕ) → T (names (equalIn s) x f (entry k x f))
-unfolding names
-names-itself s k x f = and-intro (eqb f f) _ (eqb-refl f) (equalIn-complete s (var x) (var x) itself)
+-- a path by its own name
+names-itself : (s : State) (k : Permit) (x f : ℕ) → T (isPath k) → T (names (equalIn s) x f (entry k x f))
+unfolding names entryOf
+names-itself s k x f t = and-intro (isPath k) _ t (and-intro (eqb f f) _ (eqb-refl f) (equalIn-complete s (var x) (var x) itself))
+
+covered-with :
+    (before : List Access) (s : State) (k : Permit) (x f : ℕ) → Covered before s → Member (entry k x f) (s .permissions) →
+    Covered (With k x f before) s
+covered-with before s k x f C i = go (isPath k) refl
+  where
+    go : (b : Bool) → isPath k ≡ b → Covered (cond b (record { variable = x; field = f } ∷ before) before) s
+    go true e = covered-too before s x f (entry k x f) C i (names-itself s k x f (subst T (sym e) tt))
+    go false e = C
 
 entry-adds :
     (n : ℕ) (before : List Access) (s : State) → Covered before s → Small n s → n < most-permissions → (k : Permit) (x f : ℕ) →
-    Next n (record { variable = x; field = f } ∷ before) (addPermission (entry k x f) s)
+    Next n (With k x f before) (addPermission (entry k x f) s)
 unfolding addPermission equalIn
 entry-adds n before s C S l k x f =
     let s′ : State = record { permissions = s .permissions ++ (entry k x f ∷ []); facts = s .facts } in
@@ -112,9 +127,9 @@ entry-adds n before s C S l k x f =
       after = s′;
       is-after = pass _ stateFull _ (lt→ltb (length (s .permissions)) most-permissions (omega (arith, S .entries, l)));
       covered =
-          covered-too before s′ x f (entry k x f)
+          covered-with before s′ k x f
           (λ a i. let (p, j, h) = C a i in (p, member-left (s .permissions) (entry k x f ∷ []) p j, h))
-          (member-right (s .permissions) (entry k x f ∷ []) _ at-head) (names-itself s′ k x f);
+          (member-right (s .permissions) (entry k x f ∷ []) _ at-head);
       small =
           record {
             entries = omega (arith, S .entries, length-append (s .permissions) (entry k x f ∷ []));
@@ -125,13 +140,14 @@ entry-adds n before s C S l k x f =
 -- A `read` that joins another: the entries are as many
 joined-is :
     (_~_ : Equality) (x f : ℕ) (p : Permission) (l : List Permission) → joins _~_ x f p ≡ some l →
-    T (names _~_ x f p) × (l ≡ entry acc (p .variable) (p .field) ∷ [])
+    T (entryOf _~_ (var x) f p) × (l ≡ entry acc (p .variable) (p .field) ∷ [])
 unfolding joins joining withPermit
-joined-is _~_ x f p l e = go (names _~_ x f p) (p .permit) e
+joined-is _~_ x f p l e = go (entryOf _~_ (var x) f p) (p .permit) e
   where
     go : (b : Bool) (k : Permit) → cond b (joining k p) none ≡ some l → T b × (l ≡ entry acc (p .variable) (p .field) ∷ [])
     go true acc q = none-some q
     go true read q = (tt, sym (some-inj q))
+    go true chain q = none-some q
     go false k q = none-some q
 
 joined-length :
@@ -161,7 +177,7 @@ joined-adds :
     (n : ℕ) (before : List Access) (s : State) → Covered before s → Small n s → (x f : ℕ) (c : Split) →
     split (joins (equalIn s) x f) (s .permissions) ≡ some c →
     Next n (record { variable = x; field = f } ∷ before) (ok (record { permissions = c .list; facts = s .facts }))
-unfolding equalIn names
+unfolding equalIn names entryOf isPath
 joined-adds n before s C S x f c e =
     let s′ : State = record { permissions = c .list; facts = s .facts } in
     let D : Parted (joins (equalIn s) x f) (s .permissions) c = parted _ (s .permissions) c e in
@@ -176,7 +192,7 @@ joined-adds n before s C S x f c e =
           (λ a j.
           let (p, k, h) = C a j in
           ⊎-elim (λ m. (p, m, h))
-          (λ w. (q, i, subst (λ (p : Permission). T (names (equalIn s) (a .variable) (a .field) p)) w h))
+          (λ w. (q, i, subst (λ (p : Permission). T (entryOf (equalIn s) (var (a .variable)) (a .field) p)) w (and-both (isPath (p .permit)) _ h .1)))
           (D .stays p k))
           i named;
       small = record { entries = omega (arith, S .entries, joined-length (equalIn s) x f (s .permissions) c e); known = omega (arith, S .known) };
@@ -184,9 +200,10 @@ joined-adds n before s C S x f c e =
 
 own-adds :
     (n : ℕ) (before : List Access) (s : State) → Covered before s → Small n s → n < most-permissions → (k : Permit) (x f : ℕ) →
-    Next n (record { variable = x; field = f } ∷ before) (addOwn k x f s)
-unfolding addOwn addRead
+    Next n (With k x f before) (addOwn k x f s)
+unfolding addOwn addRead isPath
 own-adds n before s C S l acc x f = entry-adds n before s C S l acc x f
+own-adds n before s C S l chain x f = entry-adds n before s C S l chain x f
 own-adds n before s C S l read x f = go (split (joins (equalIn s) x f) (s .permissions)) refl
   where
     go :
@@ -201,7 +218,7 @@ adds :
 unfolding framed add
 adds [] n before s t C S l = (s, refl)
 adds (own k x f ∷ φ) n before s t C S l =
-    let N : Next n (record { variable = x; field = f } ∷ before) (addOwn k x f s) = own-adds n before s C S (omega (arith, l)) k x f in
+    let N : Next n (With k x f before) (addOwn k x f s) = own-adds n before s C S (omega (arith, l)) k x f in
     let (s″, e) = adds φ (suc n) _ (N .after) t (N .covered) (N .small) (omega (arith, l)) in
     (s″, bind-of-ok (addOwn k x f s) (N .after) _ (N .is-after) ∙ e)
 adds (cmp r a b ∷ φ) n before s t C S l =

@@ -5,9 +5,9 @@ use mathlib.Core.Option.{Option, none, some}
 use Prim.Native.Nat.{ℕ}
 use Rattle.rules.specs.Base.{Try}
 use Rattle.rules.specs.Answers.{Refusal}
-use Rattle.rules.specs.Syntax.{Rel, Permit, Formula, Simple, Field, Program, same, eq, num, null, var, path, acc, read, own, cmp, set, assign, compute, new, call, assert, release, result-variable}
-use Rattle.rules.specs.State.{Term, State, Permission, Equality, Split, empty, equalIn, resolve, takeOwn, showFrom, show, split, joins, addPermission, addFact, addRead, addOwn, add}
-use Rattle.rules.specs.Rules.{addEqual, assignRule, addFields, addInitial, newRule, setRule, callRule, ifRule, returnRule, End, showEnd, joinRule, loopRule, rule}
+use Rattle.rules.specs.Syntax.{Rel, Permit, Formula, Simple, Field, Program, same, eq, num, null, var, path, acc, read, chain, own, cmp, set, assign, compute, new, call, assert, release, openChain, shutChain, result-variable}
+use Rattle.rules.specs.State.{Term, State, Permission, Equality, Split, empty, equalIn, resolve, shownBy, giving, takeOwn, showFrom, show, split, joins, addPermission, addFact, addRead, addOwn, add}
+use Rattle.rules.specs.Rules.{addEqual, assignRule, addFields, addInitial, newRule, setRule, callRule, openRule, shutRule, ifRule, returnRule, End, showEnd, joinRule, loopRule, rule}
 use Rattle.soundness.proofs.Refusing.{Refuses, rules, yes, bind, tested, or-else, eleven, twelve, thirteen, fourteen}
 
 abbrev pub Ruled : {A : Type 0} → Try Refusal A → Type 0
@@ -25,10 +25,19 @@ resolve-ruled q ps null = yes
 resolve-ruled q ps (var x) = yes
 resolve-ruled q ps (path y f) = bind (or-else _ eleven) (λ p. yes)
 
+shown-ruled : (b : Bool) (r : List Permission) (o : Option Split) → Ruled (shownBy b r o)
+unfolding shownBy
+shown-ruled b r none = tested b twelve yes
+shown-ruled b r (some c) = yes
+
+take-ruled : (q : Equality) (k : Permit) (t : Term) (f : ℕ) (r : List Permission) → Ruled (takeOwn q k t f r)
+unfolding takeOwn
+take-ruled q k t f r = shown-ruled _ r (split (giving q k t f) r)
+
 show-from-ruled : (q : Equality) (s : State) (φ : Formula ℕ) (r : List Permission) → Ruled (showFrom q s φ r)
-unfolding showFrom takeOwn
+unfolding showFrom
 show-from-ruled q s [] r = yes
-show-from-ruled q s (own k y f ∷ φ) r = bind (bind (or-else _ twelve) (λ c. yes)) (λ kept. show-from-ruled q s φ kept)
+show-from-ruled q s (own k y f ∷ φ) r = bind (take-ruled q k (var y) f r) (λ kept. show-from-ruled q s φ kept)
 show-from-ruled q s (cmp n a b ∷ φ) r =
     bind (resolve-ruled q _ a) (λ t. bind (resolve-ruled q _ b) (λ u. tested _ thirteen (show-from-ruled q s φ r)))
 
@@ -52,6 +61,7 @@ read-ruled x f s (some c) = yes
 own-ruled : (k : Permit) (x f : ℕ) (s : State) → Ruled (addOwn k x f s)
 unfolding addOwn
 own-ruled acc x f s = permission-ruled _ s
+own-ruled chain x f s = permission-ruled _ s
 own-ruled read x f s = read-ruled x f s (split (joins (equalIn s) x f) (s .permissions))
 
 add-ruled : (φ : Formula ℕ) (s : State) → Ruled (add φ s)
@@ -82,7 +92,7 @@ initial-ruled x [] s = yes
 initial-ruled x (f ∷ fs) s = bind (fact-ruled _ _ _ s) (initial-ruled x fs)
 
 pub rule-ruled : (P : Program) (p : Simple) (s : State) → Ruled (rule P p s)
-unfolding rule setRule newRule callRule
+unfolding rule setRule newRule callRule openRule shutRule
 rule-ruled P (set x f y) s = bind (or-else _ twelve) (λ c. fact-ruled _ _ _ _)
 rule-ruled P (assign x e) s = assign-ruled x e s
 rule-ruled P (compute o x y z) s = yes
@@ -90,6 +100,11 @@ rule-ruled P (new x c) s = bind (fields-ruled x _ _) (λ s. bind (fact-ruled _ _
 rule-ruled P (call x y m z) s = tested _ thirteen (bind (show-ruled s _) (λ r. add-ruled _ _))
 rule-ruled P (assert φ) s = bind (show-ruled s φ) (λ r. yes)
 rule-ruled P (release φ) s = bind (show-ruled s φ) (λ r. yes)
+rule-ruled P (openChain y x f) s =
+    tested _ thirteen
+    (bind (take-ruled _ _ _ f _) (λ r. bind (permission-ruled _ _) (λ s₁. bind (fact-ruled _ _ _ s₁) (permission-ruled _))))
+rule-ruled P (shutChain x f) s =
+    bind (or-else _ twelve) (λ p. bind (take-ruled _ _ _ f _) (λ r. bind (take-ruled _ _ _ f r) (λ r′. permission-ruled _ _)))
 
 pub if-ruled : (n : Rel) (a b : Term) (s : State) → Ruled (ifRule n a b s)
 unfolding ifRule

@@ -9,7 +9,7 @@ use native.Mathlib.Nat.{le-refl}
 use lib.Dec.{T}
 use Rattle.rules.specs.Base.{ok, orElse, Member}
 use Rattle.rules.specs.Answers.{noPermission}
-use Rattle.rules.specs.Syntax.{Permit, acc, read, eq, num, null, var, path}
+use Rattle.rules.specs.Syntax.{Permit, acc, read, chain, isPath, eq, num, null, var, path}
 use Rattle.rules.specs.State.{Term, Permission, State, Split, entry, equalIn, leaves, giving, split, pathOf, lists, dropPaths, addFact}
 use Rattle.rules.specs.Rules.{setRule}
 use Rattle.rules.specs.Machine.{Config, Frame, Heap, Location, valueAt, valueOf, locate, store, advance, jump, stored, setStep}
@@ -18,7 +18,7 @@ use Rattle.rules.proofs.Tries.{bind-ok, orElse-ok, bind-of-ok}
 use Rattle.rules.proofs.Sets.{location-eq, halves-nil, halves-replicate}
 use Rattle.rules.proofs.Heaps.{store-same, store-other}
 use Rattle.soundness.proofs.Satisfied.{termValue, locationOf, Stock, OwnsPath, OwnsAs, Owns, Stocked, Listed, Reads, Knows, Satisfied, AgreeOn, stocked-same, stocked-parts, stocked-append, stocked-by, value-by, path-reads, satisfied-frame}
-use Rattle.soundness.proofs.ShowSound.{AtMostTwo, names-location, located, Parted, split-parted, Divided, divided, Given, given}
+use Rattle.soundness.proofs.ShowSound.{AtMostTwo, entry-location, located, Parted, split-parted, Divided, divided, Given, given}
 use Rattle.soundness.proofs.DropSound.{reads-listed, paths-dropped}
 use Rattle.soundness.proofs.AddSound.{fact-added}
 use Rattle.soundness.proofs.Stack.{Goes}
@@ -27,6 +27,7 @@ only-acc : (j : Permit) (ks : List Permit) → leaves acc j ≡ some ks → j �
 unfolding leaves
 only-acc acc ks e = refl
 only-acc read ks e = none-some e
+only-acc chain ks e = none-some e
 
 module _ (h : Heap) (F : Frame) (s : State) (S : Satisfied h F s) (most : AtMostTwo F) (x f y : ℕ) where
   abbrev written : Heap
@@ -36,12 +37,12 @@ module _ (h : Heap) (F : Frame) (s : State) (S : Satisfied h F s) (most : AtMost
   spot = record { object = valueOf F x; field = f }
 
   -- the entry that shows `acc x f`, and the others
-  module _ (c : Split) (D : Parted (giving (equalIn s) acc x f) (s .permissions) c) where
-    gift : Given (equalIn s) acc x f (c .taken) (c .left)
-    gift = given (equalIn s) acc x f (c .taken) (c .left) (D .gives)
+  module _ (c : Split) (D : Parted (giving (equalIn s) acc (var x) f) (s .permissions) c) where
+    gift : Given (equalIn s) acc (var x) f (c .taken) (c .left)
+    gift = given (equalIn s) acc (var x) f (c .taken) (c .left) (D .gives)
 
     spot-is : locationOf F (c .taken) ≡ spot
-    spot-is = names-location h F s S x f (c .taken) (gift .named)
+    spot-is = entry-location h F s S x f (c .taken) (gift .named)
 
     parts : Divided h F (c .taken) (D .before) (D .after) (S .stock)
     parts = divided h F _ (s .permissions) c (S .stock) D (S .knows .stocked)
@@ -76,10 +77,10 @@ module _ (h : Heap) (F : Frame) (s : State) (S : Satisfied h F s) (most : AtMost
     -- a listed path is another's, or the entry's
     other-or :
         (z g : ℕ) → (i : Listed (s .permissions) z g) → Listed others z g ⊎ (entry (i .0) z g ≡ c .taken)
-    other-or z g (k, i) =
+    other-or z g (k, t, i) =
         ⊎-elim
-        (λ j. inl (k, member-left (D .before) (D .after) _ j))
-        (λ j. ⊎-elim (λ m. inl (k, member-right (D .before) (D .after) _ m)) (λ e. inr e) (head-or j))
+        (λ j. inl (k, t, member-left (D .before) (D .after) _ j))
+        (λ j. ⊎-elim (λ m. inl (k, t, member-right (D .before) (D .after) _ m)) (λ e. inr e) (head-or j))
         (append-member (D .before) (c .taken ∷ D .after) _ (subst (Member _) (D .was) i))
 
     -- a term that is not the entry's path reads the others
@@ -88,7 +89,7 @@ module _ (h : Heap) (F : Frame) (s : State) (S : Satisfied h F s) (most : AtMost
     reads-others null out i = tt
     reads-others (var v) out i = tt
     reads-others (path z g) out i =
-        ⊎-elim (λ k. k) (λ e. absurd (out (reads-listed (c .taken ∷ []) z g (i .0, is-head e)))) (other-or z g i)
+        ⊎-elim (λ k. k) (λ e. absurd (out (reads-listed (c .taken ∷ []) z g (i .0, i .1, is-head e)))) (other-or z g i)
 
     others-own : Stocked h F others of-others
     others-own =
@@ -141,7 +142,7 @@ module _ (h : Heap) (F : Frame) (s : State) (S : Satisfied h F s) (most : AtMost
     set-known :
         (s′ : State) → addFact eq (pathOf (c .taken)) (var y) forgotten ≡ ok s′ →
         (locate F [] 2 x f ≡ ok spot) × Satisfied written F s′
-    unfolding dropPaths
+    unfolding isPath dropPaths
     set-known s′ b = (
       located F [] 2 x f entry-object
           (omega (arith, entry-whole, parts .sum spot, S .within spot, halves-nil spot)),
@@ -149,7 +150,7 @@ module _ (h : Heap) (F : Frame) (s : State) (S : Satisfied h F s) (most : AtMost
         stock = S .stock;
         knows =
             fact-added written F eq (pathOf (c .taken)) (var y) forgotten s′ (S .stock) b
-            (path-reads (s .permissions) (c .taken)
+            (path-reads (s .permissions) (c .taken) (subst (λ (k : Permit). T (isPath k)) (sym is-acc) tt)
             (subst (Member _) (sym (D .was)) (member-right (D .before) (c .taken ∷ D .after) _ (is-head refl))))
             tt (written-value (c .taken) entry-object spot-is) forgotten-known;
         within = S .within;
@@ -161,7 +162,7 @@ module _ (h : Heap) (F : Frame) (s : State) (S : Satisfied h F s) (most : AtMost
       (s′ : State) → setRule x f y s ≡ ok s′ → (locate F [] 2 x f ≡ ok spot) × Satisfied written F s′
   unfolding setRule
   set-rule s′ a =
-      let (c, o, b) = bind-ok (orElse (split (giving (equalIn s) acc x f) (s .permissions)) noPermission) a in
+      let (c, o, b) = bind-ok (orElse (split (giving (equalIn s) acc (var x) f) (s .permissions)) noPermission) a in
       set-known c (split-parted _ (s .permissions) c (orElse-ok _ noPermission c o)) s′ b
 
 -- the lemma on `set`

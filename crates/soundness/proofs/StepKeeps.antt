@@ -7,7 +7,7 @@ use native.Mathlib.Omega.{arith}
 use lib.ListN.{length, getD}
 use Rattle.rules.specs.Base.{Try, ok}
 use Rattle.rules.specs.Answers.{Stop}
-use Rattle.rules.specs.Syntax.{Formula, Simple, Stmt, Program, rowNumbered, set, assign, compute, new, call, return, assert, release, simple, if, else, join, loop, again, end}
+use Rattle.rules.specs.Syntax.{Formula, Simple, Stmt, Program, rowNumbered, set, assign, compute, new, call, return, assert, release, openChain, shutChain, simple, if, else, join, loop, again, end}
 use Rattle.rules.specs.State.{State, show}
 use Rattle.rules.specs.Rules.{Open, inFirst, inSecond, inLoop, rule, returnRule, ifRule, loopRule, showEnd, joinRule, checkRow, reached, elseRow, joinRow, againRow, endRow}
 use Rattle.rules.specs.Machine.{openAfter, ifStep, elseStep, Config, Location, Room, Step, on, stop, done, statementOf, footprint, takeFrom, took, simpleStep, stepAt, step, computeStep, assertStep, releaseStep}
@@ -23,6 +23,7 @@ use Rattle.soundness.proofs.AssignSound.{assign-sound, compute-sound}
 use Rattle.soundness.proofs.SetSound.{set-sound}
 use Rattle.soundness.proofs.NewSound.{new-sound}
 use Rattle.soundness.proofs.AssertSound.{assert-sound, join-sound, release-sound}
+use Rattle.soundness.proofs.ChainSound.{open-sound, shut-sound}
 use Rattle.soundness.proofs.BranchSound.{if-sound, else-sound}
 use Rattle.soundness.proofs.LoopSound.{loop-sound, again-sound}
 use Rattle.soundness.proofs.CallSound.{MethodsAccepted, call-sound, end-sound}
@@ -68,6 +69,8 @@ module _ (room : Room) (P : Program) (W : WellFormed P) (all : MethodsAccepted P
     simple-kept (release φ) c l s′ os a k =
         let (u, b, q) = bind-ok (show s φ) a in
         onward s′ os _ k (subst (λ w. Goes m w (releaseStep φ m)) (ok-inj q) (release-sound m s S most φ u b))
+    simple-kept (openChain y x f) c l s′ os a k = onward s′ os _ k (open-sound m s s′ y x f S most (l .0) (l .1) a)
+    simple-kept (shutChain x f) c l s′ os a k = onward s′ os _ k (shut-sound m s s′ x f S most a)
 
     row-kept :
         (os : List Open) (t : Stmt) → AcceptsAt P (m .frame .ensures) t (m .frame .row) (some s) os → Kept P m (stepAt room P t m)

@@ -8,7 +8,7 @@ use native.Mathlib.Omega.{arith}
 use lib.Dec.{T, eqb, eqb→eq}
 use borrow.Author.Tests.{ne-eqb}
 use Rattle.rules.specs.Grammar.{IsStatementNumber, statementNumber, isComputing}
-use Rattle.rules.specs.Syntax.{Simple, Stmt, set, assign, compute, new, call, return, assert, release, simple, else, join, again, end}
+use Rattle.rules.specs.Syntax.{Simple, Stmt, set, assign, compute, new, call, return, assert, release, openChain, shutChain, simple, else, join, again, end}
 use Rattle.tables.specs.declared.Operands.{Operands}
 use Rattle.tables.specs.Decode.{rightAt, ifAt, loopAt, formulaOf, operationOf, stmtOf}
 
@@ -61,6 +61,14 @@ module _ (w : List ℕ) (r : Operands) where
   unfolding stmtOf isComputing statementNumber
   again-means k = rw k
 
+  pub open-means : r .kind ≡ 23 → stmtOf w r ≡ simple (openChain (r .x) (r .y) (r .member))
+  unfolding stmtOf isComputing statementNumber
+  open-means k = rw k
+
+  pub shut-means : r .kind ≡ 24 → stmtOf w r ≡ simple (shutChain (r .x) (r .member))
+  unfolding stmtOf isComputing statementNumber
+  shut-means k = rw k
+
   pub end-means : r .kind ≡ 18 → stmtOf w r ≡ end
   unfolding stmtOf isComputing statementNumber
   end-means k = rw k
@@ -88,7 +96,10 @@ module _ (w : List ℕ) (r : Operands) where
       (either (eqb (r .kind) 11) (of-simple _)
       (either (eqb (r .kind) 12) (of-return _)
       (either (eqb (r .kind) 13) (of-simple _)
-      (either (eqb (r .kind) 14) (of-simple _) (either (isComputing (r .kind)) (of-simple _) of-end))))))))
+      (either (eqb (r .kind) 14) (of-simple _)
+      (either (isComputing (r .kind)) (of-simple _)
+      (either (eqb (r .kind) 23) (of-simple _)
+      (either (eqb (r .kind) 24) (of-simple _) of-end))))))))))
     where
       either : (b : Bool) {s t : Stmt} → Q s → Q t → Q (cond b s t)
       either true p q = p
@@ -112,7 +123,9 @@ module _ (w : List ℕ) (r : Operands) where
       step 20 l19 (λ e. let z : _≡_ {A = ℕ} 0 1 = (let g = rw e at h in cc) in omega arith) λ l20.
       step 21 l20 (λ e. let z : _≡_ {A = ℕ} 0 1 = (let g = rw e at h in cc) in omega arith) λ l21.
       step 22 l21 (λ e. let z : _≡_ {A = ℕ} 0 1 = (let g = rw e at h in cc) in omega arith) λ l22.
-      omega (arith, b, l22)
+      step 23 l22 (λ e. let z : _≡_ {A = ℕ} 0 1 = (let g = rw e at h in cc) in omega arith) λ l23.
+      step 24 l23 (λ e. let z : _≡_ {A = ℕ} 0 1 = (let g = rw e at h in cc) in omega arith) λ l24.
+      omega (arith, b, l24)
     where
       -- it is not k, so it is more
       step : (k : ℕ) → k ≤ r .kind → (r .kind ≡ k → ⊥) → (suc k ≤ r .kind → ⊥) → ⊥

@@ -5,10 +5,10 @@ use Prim.Native.Nat.{ℕ, zero, suc, _+_, _-_, _*_}
 use lib.Dec.{eqb, ltb}
 use lib.ListN.{getD}
 use Rattle.rules.specs.Syntax.{Rel, Permit, Expr, Atom, Formula, Operation, Stmt, Row, Field, Method, Program}
-use Rattle.rules.specs.Syntax.{eq, ne, num, null, var, path, acc, read, own, cmp, sum, difference, set, assign, compute, new, call, return, assert, release, simple, if, else, join, loop, again, end}
-use Rattle.rules.specs.Grammar.{isComputing, set-kind, let-kind, new-kind, call-kind, return-kind, assert-kind, release-kind, if-kind, else-kind, join-kind, add-kind, loop-kind, again-kind}
+use Rattle.rules.specs.Syntax.{eq, ne, num, null, var, path, acc, read, chain, own, cmp, sum, difference, set, assign, compute, new, call, return, assert, release, openChain, shutChain, simple, if, else, join, loop, again, end}
+use Rattle.rules.specs.Grammar.{isComputing, set-kind, let-kind, new-kind, call-kind, return-kind, assert-kind, release-kind, if-kind, else-kind, join-kind, add-kind, loop-kind, again-kind, open-kind, shut-kind}
 use Rattle.tables.specs.declared.Operands.{Operands}
-use Rattle.tables.specs.Numbers.{acc-atom, eq-atom, num-tag, null-tag, var-tag}
+use Rattle.tables.specs.Numbers.{acc-atom, chain-atom, eq-atom, num-tag, null-tag, var-tag}
 use Rattle.tables.specs.Layout.{rows-at, methods-at, classes-at, places-at, atoms-at, most-names, row-bytes, atom-bytes, method-bytes, class-bytes}
 
 -- LISTS: n of f i, f (i + 1), ..
@@ -27,8 +27,8 @@ halfAt w i = byteAt w i + byteAt w (i + 1) * 256
 abbrev pub wordAt : List ℕ → ℕ → ℕ
 wordAt w i = byteAt w i + byteAt w (i + 1) * 256 + byteAt w (i + 2) * 65536 + byteAt w (i + 3) * 16777216
 
--- ATOMS: kind, tag of the left and of the right side, a spare byte, 4 bytes for each side. `acc x f`
--- and `read x f` have x and f in the first two bytes of the left side.
+-- ATOMS: kind, tag of the left and of the right side, a spare byte, 4 bytes for each side. `acc x f`,
+-- `read x f` and `chain x f` have x and f in the first two bytes of the left side.
 
 -- a side by its tag: a number (4 bytes), null, a variable (a byte), or a path (two bytes)
 unfoldable pub exprAt : List ℕ → ℕ → ℕ → Expr ℕ
@@ -50,7 +50,7 @@ leftTagAt w i = byteAt w (atomPlace i + 1)
 abbrev pub rightTagAt : List ℕ → ℕ → ℕ
 rightTagAt w i = byteAt w (atomPlace i + 2)
 
--- the variable and the field of an `acc` or a `read`
+-- the variable and the field of an `acc`, a `read` or a `chain`
 abbrev pub accVariableAt : List ℕ → ℕ → ℕ
 accVariableAt w i = byteAt w (atomPlace i + 4)
 
@@ -62,7 +62,7 @@ unfoldable pub isPermission : ℕ → Bool
 isPermission k = ltb k eq-atom
 
 unfoldable pub permitOf : ℕ → Permit
-permitOf k = cond (eqb k acc-atom) acc read
+permitOf k = cond (eqb k acc-atom) acc (cond (eqb k chain-atom) chain read)
 
 unfoldable pub relOf : ℕ → Rel
 relOf k = cond (eqb k eq-atom) eq ne
@@ -88,7 +88,7 @@ unfoldable pub framedFrom : List ℕ → ℕ → ℕ → ℕ → Formula ℕ
 framedFrom w k i n = cond (eqb k loop-kind) (atomsFrom w (i + 1) (n - 1) ++ (atomAt w i ∷ [])) (atomsFrom w i n)
 
 -- STATEMENT ROWS: kind, x, y, z, member (field, class or method), count of atoms (a byte each); first atom, line, target (2 bytes each).
--- `let x e` has e as the right side of its atom, `if` its condition as its atom. The atoms of `loop` are those of its invariant; the atom
+-- `let x e` has e as the right side of its atom, `if` its condition as its atom. `open y x f` has y for x, and x for y. The atoms of `loop` are those of its invariant; the atom
 -- before them is its condition. The target of `if` is the row after its `else`, that of `else` its `join`, that of `loop` the row after
 -- its `again`, that of `again` its `loop`.
 
@@ -170,7 +170,9 @@ stmtOf w r =
     (cond (isComputing (r .kind)) (simple (compute (operationOf (r .kind)) (r .x) (r .y) (r .z)))
     (cond (eqb (r .kind) loop-kind) (loopAt w (r .first - 1) (formulaOf w r))
     (cond (eqb (r .kind) again-kind) again
-    end))))))))))))
+    (cond (eqb (r .kind) open-kind) (simple (openChain (r .x) (r .y) (r .member)))
+    (cond (eqb (r .kind) shut-kind) (simple (shutChain (r .x) (r .member)))
+    end))))))))))))))
 
 abbrev pub formulaAt : List ℕ → ℕ → Formula ℕ
 formulaAt w i = formulaOf w (operandsAt w i)

@@ -17,7 +17,7 @@ word-values = 4294967296
 abbrev pub word-bytes : ℕ
 word-bytes = 4
 
--- ATOMS: the kind of a permission is the number of its halves
+-- ATOMS: the kind of an `acc` or a `read` is the number of its halves
 
 abbrev pub read-atom : ℕ
 read-atom = 1
@@ -25,11 +25,14 @@ read-atom = 1
 abbrev pub acc-atom : ℕ
 acc-atom = 2
 
+abbrev pub chain-atom : ℕ
+chain-atom = 3
+
 abbrev pub eq-atom : ℕ
-eq-atom = 3
+eq-atom = 4
 
 abbrev pub ne-atom : ℕ
-ne-atom = 4
+ne-atom = 5
 
 -- a side is a number, null, a variable or a path
 abbrev pub num-tag : ℕ

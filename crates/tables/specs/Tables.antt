@@ -8,7 +8,7 @@ use lib.Dec.{T, leb}
 use lib.ListN.{length, drop}
 use Rattle.rules.specs.Limits.{most-classes, most-fields, most-methods, most-statements, most-branches, most-atoms, work-bytes}
 use Rattle.rules.specs.Syntax.{Expr, num, null, var, path, Stmt, Row, simple, return, if, else, join, loop, again, end}
-use Rattle.rules.specs.Grammar.{IsStatementNumber, set-kind, let-kind, new-kind, call-kind, if-kind, else-kind, end-kind, loop-kind, again-kind}
+use Rattle.rules.specs.Grammar.{IsStatementNumber, set-kind, let-kind, new-kind, call-kind, if-kind, else-kind, end-kind, loop-kind, again-kind, open-kind, shut-kind}
 use Rattle.rules.specs.Machine.{closing, loopOf}
 use Rattle.tables.specs.declared.Operands.{Operands}
 use Rattle.tables.specs.Numbers.{word-values, read-atom, eq-atom, ne-atom, path-tag, no-place}
@@ -24,7 +24,7 @@ SideFits null = Unit {0}
 SideFits (var x) = x < frame-variables
 SideFits (path x f) = (x < frame-variables) × (f < most-names)
 
--- an atom of the kind k with the sides a, which has this tag, and b: `acc x f` and `read x f` are written as a path on the left
+-- an atom of the kind k with the sides a, which has this tag, and b: `acc x f`, `read x f` and `chain x f` are written as a path on the left
 pub record AtomFits (k tag : ℕ) (a b : Expr ℕ) : Type 0 where
   pub least : read-atom ≤ k
   pub kind : k ≤ ne-atom
@@ -49,6 +49,10 @@ pub record Declared : Type 0 where
 abbrev pub declaredIn : List ℕ → Declared
 declaredIn w = record { classes = classCount w; methods = methodCount w }
 
+-- `set`, `open` and `shut` name a field
+abbrev pub HasField : ℕ → Type 0
+HasField k = (k ≡ set-kind) ⊎ ((k ≡ open-kind) ⊎ (k ≡ shut-kind))
+
 -- operands that a row may have where there are n atoms: what `member` is by the kind, which kinds have one atom, and which has a condition
 -- before its atoms
 pub record OperandsFit (D : Declared) (n : ℕ) (r : Operands) : Type 0 where
@@ -56,7 +60,7 @@ pub record OperandsFit (D : Declared) (n : ℕ) (r : Operands) : Type 0 where
   pub x : r .x < frame-variables
   pub y : r .y < frame-variables
   pub z : r .z < frame-variables
-  pub field : r .kind ≡ set-kind → r .member < most-names
+  pub field : HasField (r .kind) → r .member < most-names
   pub class : r .kind ≡ new-kind → r .member < D .classes
   pub method : r .kind ≡ call-kind → r .member < D .methods
   pub atoms : AtomsFit n (r .first) (r .atoms)

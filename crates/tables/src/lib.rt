@@ -251,9 +251,11 @@ impl AtomKind {
 
     pub const ACC: usize = 2;
 
-    pub const EQ: usize = 3;
+    pub const CHAIN: usize = 3;
 
-    pub const NE: usize = 4;
+    pub const EQ: usize = 4;
+
+    pub const NE: usize = 5;
 }
 
 // The kind of the atom a, as `AtomKind` numbers it.
@@ -264,7 +266,7 @@ pub fn atom_kind(w: &[u8], a: usize) -> usize
     byte_at(w, Layout::ATOMS + a * Layout::ATOM_BYTES)
 }
 
-// The variable of the atom a, an `acc` or a `read`.
+// The variable of the atom a, an `acc`, a `read` or a `chain`.
 pub fn atom_variable(w: &[u8], a: usize) -> usize
     requires { ⌜ (length (now w) ≡ work-bytes) × (a < most-atom-rows) ⌝ }
     ensures { λ r. ⌜ (r ≡ accVariableAt (now (w .entry)) a) × (r < byte-values) ⌝ }
@@ -272,7 +274,7 @@ pub fn atom_variable(w: &[u8], a: usize) -> usize
     byte_at(w, Layout::ATOMS + a * Layout::ATOM_BYTES + AtomAt::VARIABLE)
 }
 
-// The field of the atom a, an `acc` or a `read`.
+// The field of the atom a, an `acc`, a `read` or a `chain`.
 pub fn atom_field(w: &[u8], a: usize) -> usize
     requires { ⌜ (length (now w) ≡ work-bytes) × (a < most-atom-rows) ⌝ }
     ensures { λ r. ⌜ (r ≡ accFieldAt (now (w .entry)) a) × (r < byte-values) ⌝ }

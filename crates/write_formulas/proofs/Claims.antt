@@ -32,7 +32,7 @@ use Rattle.tables.proofs.Kept.{atoms-kept}
 use Rattle.tables.proofs.Statements.{assert-means, release-means, join-means, loop-means}
 use Rattle.write_rows.proofs.Methods.{requires-written, ensures-written, requires-names, ensures-names}
 use Rattle.write_rows.specs.Holds.{Holds, Building}
-use Rattle.write_rows.proofs.Rows.{row-written, row-kept, row-names, row-length, row-bytes}
+use Rattle.write_rows.proofs.Rows.{no-field, row-written, row-kept, row-names, row-length, row-bytes}
 use Rattle.resolve_atoms.specs.declared.Put.{Put}
 use Rattle.resolve_atoms.specs.Written.{formulaAfter, fitsAfter, FormulaFollows, FormulaPut, FormulaTried, Unfit}
 use Rattle.write_formulas.specs.Claims.{isClaim, hasCondition, loopWith, claimOf, ownFirst, claimRow, ClaimFollows, ClaimPut, HeaderPut, ClaimTried, HeaderTried}
@@ -176,7 +176,7 @@ module _ {t w : List ℕ} {c : Names} {r n : ℕ} (k i l : ℕ) (ready : AreaFit
           x = omega arith;
           y = omega arith;
           z = omega arith;
-          field = λ e. absurd (omega (arith, bounds));
+          field = no-field k (omega (arith, bounds), omega (arith, bounds));
           class = λ e. absurd (omega (arith, bounds));
           method = λ e. absurd (omega (arith, bounds));
           atoms = (omega (arith, owned .most), omega (arith, owned .least));

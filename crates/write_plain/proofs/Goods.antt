@@ -12,19 +12,19 @@ use Rattle.rules.specs.Base as Base
 use Rattle.rules.specs.Base.{Name, bytes, eqName, any, first, withDefault}
 use Rattle.rules.specs.Text.{formulaOf}
 use Rattle.rules.specs.Grammar as Grammar
-use Rattle.rules.specs.Grammar.{Kind, Statement, Operand, nothing, form, isOperand, isFormed, statement, Set, New, Call, Return, Else, End, Add, Sub, Again}
+use Rattle.rules.specs.Grammar.{Kind, Statement, Operand, nothing, form, isOperand, isFormed, statement, Set, New, Call, Return, Else, End, Add, Sub, Again, Open, Shut}
 use Rattle.rules.specs.Syntax.{Operation, sum, difference}
 use Rattle.rules.specs.Scope as Scopes
 use Rattle.rules.specs.Scope.{Declarations, Variable, Scope}
 use Rattle.rules.specs.Names as Names
-use Rattle.rules.specs.Names.{isLocal, inScope, isInt, isClass, knownField, knownMethod, variableNumber, variableType, fieldType, methodOfClass, noVariable, lookUp}
+use Rattle.rules.specs.Names.{isLocal, inScope, isInt, isClass, knownField, knownMethod, variableNumber, variableType, fieldType, methodOfClass, chains, noVariable, lookUp}
 use Rattle.read_bytes.proofs.Search.{both-true, and-false, true-false}
 use Rattle.read_declarations.specs.Declares.{lineWith}
 use Rattle.resolve_pass.specs.Passes.{isGood}
-use Rattle.read_types.specs.Types.{good}
+use Rattle.read_types.specs.Types.{good, chainGood}
 use Rattle.resolve_atoms.specs.Good.{fitsAtom}
 use Rattle.resolve_atoms.proofs.Goods.{formula-good}
-use Rattle.write_plain.specs.Plain.{setGood, newGood, callApart, callKnown, callAgrees, callGood, returnGood, computeGood}
+use Rattle.write_plain.specs.Plain.{setGood, newGood, callApart, callKnown, callAgrees, callGood, returnGood, computeGood, openGood, shutGood}
 
 -- FORM: a line of operands alone has as many fields
 pub formed-length : (os : List Operand) (ws : List Name) → isFormed os nothing ws ≡ true → length ws ≡ length os
@@ -102,7 +102,7 @@ module _ (Γ : Declarations) (vs : List Variable) (s : Scope) where
   new-shuffle false k e false h = refl
 
   new-two : (ws : List Name) → length ws ≡ 2 → isGood Γ vs s (lineWith (statement New) ws) ≡ newGood Γ vs ws
-  unfolding Base.all Grammar.opened Scopes.opened Names.allKnown Names.known Names.allTyped Names.ofClass Names.sidesAgree Names.allAssignable Names.mayBeAssigned Names.callApart formulaOf isGood newGood
+  unfolding Base.all Grammar.opened Scopes.opened Names.allKnown Names.known Names.allTyped Names.ofClass Names.sidesAgree Names.allAssignable Names.mayBeAssigned Names.callApart Names.openApart formulaOf isGood newGood
   new-two [] e = absurd (omega arith)
   new-two (x ∷ []) e = absurd (omega arith)
   new-two (x ∷ C ∷ []) e =
@@ -111,30 +111,29 @@ module _ (Γ : Declarations) (vs : List Variable) (s : Scope) where
 
   call-shuffle :
       (x y m z i a l p : Bool) → (l ≡ true → x ≡ true) →
-      ((x && (y && (m && (z && true)))) && (((i && true) && (a && true)) && ((l && true) && p))) ≡ ((l && (y && (z && p))) && ((i && m) && a))
-  call-shuffle false y m z i a true p h = true-false (sym (h refl))
-  call-shuffle false y m z i a false p h = refl
-  call-shuffle true false m z i a true p h = refl
-  call-shuffle true false m z i a false p h = refl
-  call-shuffle true true false z i a false p h = refl
-  call-shuffle true true false false i a true p h = refl
-  call-shuffle true true false true i a true false h = refl
-  call-shuffle true true false true false a true true h = refl
-  call-shuffle true true false true true a true true h = refl
+      ((x && (y && (m && (z && true)))) && (((i && true) && (a && true)) && ((l && true) && (p && true)))) ≡ ((l && (y && (z && p))) && ((i && m) && a))
+  call-shuffle true true true true true true true p h = refl
+  call-shuffle true true true true true true false p h = refl
+  call-shuffle true true true true true false true true h = refl
+  call-shuffle true true true true true false true false h = refl
+  call-shuffle true true true true true false false p h = refl
+  call-shuffle true true true true false a true true h = refl
+  call-shuffle true true true true false a true false h = refl
+  call-shuffle true true true true false a false p h = refl
   call-shuffle true true true false i a true p h = refl
   call-shuffle true true true false i a false p h = refl
-  call-shuffle true true true true false a false p h = refl
-  call-shuffle true true true true false a true false h = refl
-  call-shuffle true true true true false a true true h = refl
-  call-shuffle true true true true true false false p h = refl
-  call-shuffle true true true true true false true false h = refl
-  call-shuffle true true true true true false true true h = refl
-  call-shuffle true true true true true true false p h = refl
-  call-shuffle true true true true true true true false h = refl
-  call-shuffle true true true true true true true true h = refl
+  call-shuffle true true false true true a true true h = refl
+  call-shuffle true true false true false a true true h = refl
+  call-shuffle true true false true i a true false h = refl
+  call-shuffle true true false false i a true p h = refl
+  call-shuffle true true false z i a false p h = refl
+  call-shuffle true false m z i a true p h = refl
+  call-shuffle true false m z i a false p h = refl
+  call-shuffle false y m z i a true p h = true-false (sym (h refl))
+  call-shuffle false y m z i a false p h = refl
 
   call-four : (ws : List Name) → length ws ≡ 4 → isGood Γ vs s (lineWith (statement Call) ws) ≡ callGood Γ vs ws
-  unfolding Base.all Grammar.opened Scopes.opened Names.allKnown Names.known Names.allTyped Names.ofClass Names.sidesAgree Names.callAgrees Names.allAssignable Names.mayBeAssigned Names.callApart formulaOf isGood callGood callApart callKnown callAgrees
+  unfolding Base.all Grammar.opened Scopes.opened Names.allKnown Names.known Names.allTyped Names.ofClass Names.sidesAgree Names.callAgrees Names.allAssignable Names.mayBeAssigned Names.callApart Names.openApart formulaOf isGood callGood callApart callKnown callAgrees
   call-four [] e = absurd (omega arith)
   call-four (x ∷ []) e = absurd (omega arith)
   call-four (x ∷ y ∷ []) e = absurd (omega arith)
@@ -152,7 +151,7 @@ module _ (Γ : Declarations) (vs : List Variable) (s : Scope) where
   return-shuffle false e = refl
 
   return-one : (ws : List Name) → length ws ≡ 1 → isGood Γ vs s (lineWith (statement Return) ws) ≡ returnGood Γ vs ws
-  unfolding Base.all Grammar.opened Scopes.opened Names.allKnown Names.known Names.allTyped Names.ofClass Names.sidesAgree Names.allAssignable Names.mayBeAssigned Names.callApart formulaOf isGood returnGood
+  unfolding Base.all Grammar.opened Scopes.opened Names.allKnown Names.known Names.allTyped Names.ofClass Names.sidesAgree Names.allAssignable Names.mayBeAssigned Names.callApart Names.openApart formulaOf isGood returnGood
   return-one [] e = absurd (omega arith)
   return-one (x ∷ []) e = return-shuffle (inScope vs x) (eqName (variableType vs x) (variableType vs (bytes "result")))
   return-one (x ∷ y ∷ ws) e = absurd (omega arith)
@@ -168,7 +167,7 @@ module _ (Γ : Declarations) (vs : List Variable) (s : Scope) where
 
   compute-three :
       (o : Operation) (ws : List Name) → length ws ≡ 3 → isGood Γ vs s (lineWith (statement (computing o)) ws) ≡ computeGood Γ vs ws
-  unfolding Base.all Grammar.opened Scopes.opened Names.allKnown Names.known Names.allTyped Names.ofClass Names.sidesAgree Names.allInt Names.allAssignable Names.mayBeAssigned Names.callApart formulaOf isGood computeGood
+  unfolding Base.all Grammar.opened Scopes.opened Names.allKnown Names.known Names.allTyped Names.ofClass Names.sidesAgree Names.allInt Names.allAssignable Names.mayBeAssigned Names.callApart Names.openApart formulaOf isGood computeGood
   compute-three o [] e = absurd (omega arith)
   compute-three o (x ∷ []) e = absurd (omega arith)
   compute-three o (x ∷ y ∷ []) e = absurd (omega arith)
@@ -179,6 +178,51 @@ module _ (Γ : Declarations) (vs : List Variable) (s : Scope) where
       compute-shuffle (inScope vs x) (inScope vs y) (inScope vs z) (isInt vs x) (isInt vs y) (isInt vs z) (isLocal (variableNumber vs x))
       (int-known vs x) (int-known vs y) (int-known vs z)
   compute-three o (x ∷ y ∷ z ∷ u ∷ ws) e = absurd (omega arith)
+
+  open-shuffle :
+      (y x f i e k l p : Bool) → (l ≡ true → y ≡ true) →
+      ((y && (x && (f && true))) && (((i && true) && ((e && k) && true)) && ((l && true) && p))) ≡ ((((x && f) && i) && k) && (l && (p && e)))
+  open-shuffle true true true true true true true true h = refl
+  open-shuffle true true true true true true true false h = refl
+  open-shuffle true true true true true true false p h = refl
+  open-shuffle true true true true true false l p h = refl
+  open-shuffle true true true true false true true true h = refl
+  open-shuffle true true true true false true true false h = refl
+  open-shuffle true true true true false true false p h = refl
+  open-shuffle true true true true false false l p h = refl
+  open-shuffle true true true false e k l p h = refl
+  open-shuffle true true false i e k l p h = refl
+  open-shuffle true false f i e k l p h = refl
+  open-shuffle false true true true e true true p h = true-false (sym (h refl))
+  open-shuffle false true true true e true false p h = refl
+  open-shuffle false true true true e false l p h = refl
+  open-shuffle false true true false e k l p h = refl
+  open-shuffle false true false i e k l p h = refl
+  open-shuffle false false f i e k l p h = refl
+
+  open-three : (ws : List Name) → length ws ≡ 3 → isGood Γ vs s (lineWith (statement Open) ws) ≡ openGood Γ vs ws
+  unfolding Base.all Grammar.opened Scopes.opened Names.allKnown Names.known Names.knownExpr Names.allTyped Names.ofClass Names.ofClassIn Names.sidesAgree Names.allAssignable Names.mayBeAssigned Names.callApart Names.openApart formulaOf isGood openGood chainGood good
+  open-three [] e = absurd (omega arith)
+  open-three (y ∷ []) e = absurd (omega arith)
+  open-three (y ∷ x ∷ []) e = absurd (omega arith)
+  open-three (y ∷ x ∷ f ∷ []) e =
+      open-shuffle (inScope vs y) (inScope vs x) (knownField Γ vs x f) (not (isInt vs x)) (eqName (variableType vs y) (variableType vs x))
+      (chains Γ vs x f) (isLocal (variableNumber vs y)) (not (eqb (variableNumber vs y) (variableNumber vs x))) (local-known vs y)
+  open-three (y ∷ x ∷ f ∷ z ∷ ws) e = absurd (omega arith)
+
+  shut-shuffle : (x f i k : Bool) → ((x && (f && true)) && (((i && true) && (k && true)) && true)) ≡ (((x && f) && i) && k)
+  shut-shuffle true true true true = refl
+  shut-shuffle true true true false = refl
+  shut-shuffle true true false k = refl
+  shut-shuffle true false i k = refl
+  shut-shuffle false f i k = refl
+
+  shut-two : (ws : List Name) → length ws ≡ 2 → isGood Γ vs s (lineWith (statement Shut) ws) ≡ shutGood Γ vs ws
+  unfolding Base.all Grammar.opened Scopes.opened Names.allKnown Names.known Names.knownExpr Names.allTyped Names.ofClass Names.ofClassIn Names.sidesAgree Names.allAssignable Names.mayBeAssigned Names.callApart Names.openApart formulaOf isGood shutGood chainGood good
+  shut-two [] e = absurd (omega arith)
+  shut-two (x ∷ []) e = absurd (omega arith)
+  shut-two (x ∷ f ∷ []) e = shut-shuffle (inScope vs x) (knownField Γ vs x f) (not (isInt vs x)) (chains Γ vs x f)
+  shut-two (x ∷ f ∷ y ∷ ws) e = absurd (omega arith)
 
   -- WITH ITS FORM
   abbrev Formed : Kind → List Name → Type 0
@@ -206,6 +250,14 @@ module _ (Γ : Declarations) (vs : List Variable) (s : Scope) where
   unfolding Grammar.opened
   compute-good sum ws e = compute-three sum ws (formed-length (form (statement Add) .operands) ws e)
   compute-good difference ws e = compute-three difference ws (formed-length (form (statement Sub) .operands) ws e)
+
+  pub open-good : (ws : List Name) → Formed (statement Open) ws → isGood Γ vs s (lineWith (statement Open) ws) ≡ openGood Γ vs ws
+  unfolding Grammar.opened
+  open-good ws e = open-three ws (formed-length (form (statement Open) .operands) ws e)
+
+  pub shut-good : (ws : List Name) → Formed (statement Shut) ws → isGood Γ vs s (lineWith (statement Shut) ws) ≡ shutGood Γ vs ws
+  unfolding Grammar.opened
+  shut-good ws e = shut-two ws (formed-length (form (statement Shut) .operands) ws e)
 
   -- a line that is its word alone
   bare-good : (k : Kind) → form k .operands ≡ [] → form k .tail ≡ nothing → (ws : List Name) → Formed k ws → isGood Γ vs s (lineWith k ws) ≡ true

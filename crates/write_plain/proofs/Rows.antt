@@ -11,13 +11,12 @@ use borrow.Author.Tests.{ltb-true, not-true}
 use Rattle.rules.specs.Base.{Name, any, eqName}
 use Rattle.rules.specs.Limits.{most-statements}
 use Rattle.rules.specs.Text.{reserved}
-use Rattle.rules.specs.Grammar.{Kind, IsStatementNumber, statementNumber, isComputing, statement, Set, New, Call, Return, Else, End, Again}
+use Rattle.rules.specs.Grammar.{Kind, IsStatementNumber, statementNumber, isComputing, statement, Set, New, Call, Return, Else, End, Again, Open, Shut}
 use Rattle.rules.specs.Scope as Scopes
 use Rattle.rules.specs.Scope.{Declarations, Variable}
-use Rattle.rules.specs.Names as Names
-use Rattle.rules.specs.Names.{inScope, isLocal, isInt, knownField, knownMethod, isClass, isFieldOf, isMethodOf, variableType, variableNumber, fieldNumber, classNumber, methodNumber}
+use Rattle.rules.specs.Names.{inScope, isLocal, isInt, knownMethod, isClass, isMethodOf, chains, variableType, variableNumber, fieldNumber, classNumber, methodNumber}
 use Rattle.rules.specs.Items as Items
-use Rattle.rules.specs.Items.{itemOf}
+use Rattle.rules.specs.Items.{itemOf, resolveExpr}
 use Rattle.read_bytes.proofs.Search.{both-true, true-false}
 use Rattle.read_fields.specs.Cuts.{more}
 use Rattle.read_scopes.specs.declared.Names as Counts
@@ -26,21 +25,21 @@ use Rattle.read_names.specs.Rows.{nameIn}
 use Rattle.read_scopes.specs.Meanings.{NamesFit, declarationsIn, variablesIn}
 use Rattle.read_lookups.proofs.LookUps.{class-any, method-any}
 use Rattle.tables.specs.Layout.{most-names, frame-variables}
-use Rattle.rules.specs.Syntax.{Operation, sum, difference, Program}
+use Rattle.rules.specs.Syntax.{Operation, sum, difference, Program, path}
 use Rattle.rules.specs.Reading.{withItem}
 use Rattle.tables.specs.declared.Operands.{Operands}
 use Rattle.write_rows.specs.Puts.{putRow}
 use Rattle.write_rows.specs.Holds.{Holds}
 use Rattle.tables.specs.Decode.{operationOf}
-use Rattle.tables.specs.Tables.{OperandsFit}
-use Rattle.tables.proofs.Statements.{set-means, new-means, call-means, return-means, else-means, again-means, end-means, compute-means}
-use Rattle.write_rows.proofs.Rows.{row-written}
+use Rattle.tables.specs.Tables.{HasField, SideFits, OperandsFit}
+use Rattle.tables.proofs.Statements.{set-means, new-means, call-means, return-means, else-means, again-means, end-means, compute-means, open-means, shut-means}
+use Rattle.write_rows.proofs.Rows.{no-field, row-written}
 use Rattle.resolve_pass.specs.Passes.{counts}
 use Rattle.read_declarations.specs.Texts.{SpanAfter}
 use Rattle.read_declarations.specs.Declares.{lineWith}
-use Rattle.read_types.specs.Types.{good}
-use Rattle.resolve_atoms.proofs.Sides.{variable-small, field-small}
-use Rattle.write_plain.specs.Plain.{bare, setRow, newRow, callRow, returnRow, computeRow, setGood, newGood, callApart, callKnown, callGood, returnGood, computeGood}
+use Rattle.read_types.specs.Types.{good, chainGood}
+use Rattle.resolve_atoms.proofs.Sides.{variable-small, path-fits}
+use Rattle.write_plain.specs.Plain.{bare, setRow, newRow, callRow, returnRow, computeRow, openRow, shutRow, setGood, newGood, callApart, callKnown, callGood, returnGood, computeGood, openGood, shutGood}
 use Rattle.write_plain.proofs.Goods.{local-known, int-known, computing}
 
 -- the fourth field of a line
@@ -63,7 +62,7 @@ module _ (t w : List ℕ) (c : Counts.Names) (fits : NamesFit c) (n l : ℕ) whe
   -- a row of this kind without atoms
   bare-ok :
       (k x y z m : ℕ) → IsStatementNumber k → (k ≡ 9 → ⊥) → (k ≡ 15 → ⊥) → (k ≡ 21 → ⊥) → x < frame-variables → y < frame-variables →
-      z < frame-variables → (k ≡ 8 → m < most-names) → (k ≡ 10 → m < c .classes) → (k ≡ 11 → m < c .methods) → OperandsFit (counts c) n (bare k x y z m l)
+      z < frame-variables → (HasField k → m < most-names) → (k ≡ 10 → m < c .classes) → (k ≡ 11 → m < c .methods) → OperandsFit (counts c) n (bare k x y z m l)
   bare-ok k x y z m is no-let no-if no-loop p q r f g h =
       record {
         kind = is;
@@ -83,11 +82,9 @@ module _ (t w : List ℕ) (c : Counts.Names) (fits : NamesFit c) (n l : ℕ) whe
   or-right true b e h = true-false e
   or-right false b e h = h
 
-  field-known : (x f : Name) → knownField Γ vs x f ≡ true → not (isInt vs x) ≡ true → fieldNumber Γ f < most-names
-  unfolding knownField
-  field-known x f k i =
-      let a = both-true (not (reserved f)) (isInt vs x || any (isFieldOf Γ (variableType vs x) f) (Γ .fields)) k in
-      field-small t w c fits (variableType vs x) f (or-right (isInt vs x) _ (not-true _ i) (a .1))
+  path-known : (x f : Name) → good Γ vs (path x f) ≡ true → (variableNumber vs x < frame-variables) × (fieldNumber Γ f < most-names)
+  unfolding SideFits resolveExpr
+  path-known x f g = path-fits t w c fits x f g
 
   method-known :
       (y m : Name) → knownMethod Γ vs y m ≡ true → not (isInt vs y) ≡ true → methodNumber Γ (variableType vs y) m < c .methods
@@ -105,16 +102,30 @@ module _ (t w : List ℕ) (c : Counts.Names) (fits : NamesFit c) (n l : ℕ) whe
 
   -- BY THE KIND OF THE LINE
   pub set-ok : (ws : List Name) → setGood Γ vs ws ≡ true → OperandsFit (counts c) n (setRow Γ vs ws l)
-  unfolding setGood setRow good Names.knownExpr Names.ofClassIn
+  unfolding setGood setRow
   set-ok ws e =
-      let u : Name = getD ws 0 [] in
-      let v : Name = getD ws 1 [] in
-      let a = both-true ((inScope vs u && knownField Γ vs u v) && not (isInt vs u)) _ e in
-      let p = both-true (inScope vs u && knownField Γ vs u v) (not (isInt vs u)) (a .0) in
-      let b = both-true (inScope vs u) (knownField Γ vs u v) (p .0) in
+      let a = both-true (good Γ vs (path (getD ws 0 []) (getD ws 1 []))) _ e in
+      let p = path-known (getD ws 0 []) (getD ws 1 []) (a .0) in
       let d = both-true (inScope vs (getD ws 2 [])) _ (a .1) in
-      bare-ok 8 _ _ _ _ (omega arith, omega arith) (λ e. omega arith) (λ e. omega arith) (λ e. omega arith) (variable-small t w c fits u (b .0))
-      (variable-small t w c fits (getD ws 2 []) (d .0)) (omega arith) (λ i. field-known u v (b .1) (p .1)) (λ i. absurd (omega arith)) (λ i. absurd (omega arith))
+      bare-ok 8 _ _ _ _ (omega arith, omega arith) (λ e. omega arith) (λ e. omega arith) (λ e. omega arith) (p .0)
+      (variable-small t w c fits (getD ws 2 []) (d .0)) (omega arith) (λ i. p .1) (λ i. absurd (omega arith)) (λ i. absurd (omega arith))
+
+  pub open-ok : (ws : List Name) → openGood Γ vs ws ≡ true → OperandsFit (counts c) n (openRow Γ vs ws l)
+  unfolding openGood openRow chainGood
+  open-ok ws e =
+      let a = both-true (good Γ vs (path (getD ws 1 []) (getD ws 2 [])) && chains Γ vs (getD ws 1 []) (getD ws 2 [])) _ e in
+      let p = path-known (getD ws 1 []) (getD ws 2 []) (both-true (good Γ vs (path (getD ws 1 []) (getD ws 2 []))) _ (a .0) .0) in
+      let d = both-true (isLocal (variableNumber vs (getD ws 0 []))) _ (a .1) in
+      bare-ok 23 _ _ _ _ (omega arith, omega arith) (λ e. omega arith) (λ e. omega arith) (λ e. omega arith)
+      (variable-small t w c fits (getD ws 0 []) (local-known vs (getD ws 0 []) (d .0)))
+      (p .0) (omega arith) (λ i. p .1) (λ i. absurd (omega arith)) (λ i. absurd (omega arith))
+
+  pub shut-ok : (ws : List Name) → shutGood Γ vs ws ≡ true → OperandsFit (counts c) n (shutRow Γ vs ws l)
+  unfolding shutGood shutRow chainGood
+  shut-ok ws e =
+      let p = path-known (getD ws 0 []) (getD ws 1 []) (both-true (good Γ vs (path (getD ws 0 []) (getD ws 1 []))) _ e .0) in
+      bare-ok 24 _ _ _ _ (omega arith, omega arith) (λ e. omega arith) (λ e. omega arith) (λ e. omega arith) (p .0)
+      (omega arith) (omega arith) (λ i. p .1) (λ i. absurd (omega arith)) (λ i. absurd (omega arith))
 
   pub new-ok : (ws : List Name) → newGood Γ vs ws ≡ true → OperandsFit (counts c) n (newRow Γ vs ws l)
   unfolding newGood newRow
@@ -123,14 +134,14 @@ module _ (t w : List ℕ) (c : Counts.Names) (fits : NamesFit c) (n l : ℕ) whe
       let b = both-true (isClass Γ (getD ws 1 [])) _ (a .1) in
       bare-ok 10 _ _ _ _ (omega arith, omega arith) (λ e. omega arith) (λ e. omega arith) (λ e. omega arith)
       (variable-small t w c fits (getD ws 0 []) (local-known vs (getD ws 0 []) (a .0)))
-      (omega arith) (omega arith) (λ i. absurd (omega arith)) (λ i. class-known (getD ws 1 []) (b .0)) (λ i. absurd (omega arith))
+      (omega arith) (omega arith) (no-field 10 (omega arith, omega arith)) (λ i. class-known (getD ws 1 []) (b .0)) (λ i. absurd (omega arith))
 
   pub return-ok : (ws : List Name) → returnGood Γ vs ws ≡ true → OperandsFit (counts c) n (returnRow Γ vs ws l)
   unfolding returnGood returnRow
   return-ok ws e =
       let a = both-true (inScope vs (getD ws 0 [])) _ e in
       bare-ok 12 _ _ _ _ (omega arith, omega arith) (λ e. omega arith) (λ e. omega arith) (λ e. omega arith) (variable-small t w c fits (getD ws 0 []) (a .0))
-      (omega arith) (omega arith) (λ i. absurd (omega arith)) (λ i. absurd (omega arith)) (λ i. absurd (omega arith))
+      (omega arith) (omega arith) (no-field 12 (omega arith, omega arith)) (λ i. absurd (omega arith)) (λ i. absurd (omega arith))
 
   pub call-ok : (ws : List Name) → callGood Γ vs ws ≡ true → OperandsFit (counts c) n (callRow Γ vs ws l)
   unfolding callGood callApart callKnown callRow
@@ -143,7 +154,7 @@ module _ (t w : List ℕ) (c : Counts.Names) (fits : NamesFit c) (n l : ℕ) whe
       let m = both-true (not (isInt vs (getD ws 1 []))) _ (k .0) in
       bare-ok 11 _ _ _ _ (omega arith, omega arith) (λ e. omega arith) (λ e. omega arith) (λ e. omega arith)
       (variable-small t w c fits (getD ws 0 []) (local-known vs (getD ws 0 []) (a .0)))
-      (variable-small t w c fits (getD ws 1 []) (b .0)) (variable-small t w c fits (getD ws 3 []) (d .0)) (λ i. absurd (omega arith)) (λ i. absurd (omega arith))
+      (variable-small t w c fits (getD ws 1 []) (b .0)) (variable-small t w c fits (getD ws 3 []) (d .0)) (no-field 11 (omega arith, omega arith)) (λ i. absurd (omega arith))
       (λ j. method-known (getD ws 1 []) (getD ws 2 []) (m .1) (m .0))
 
   pub compute-ok :
@@ -161,7 +172,7 @@ module _ (t w : List ℕ) (c : Counts.Names) (fits : NamesFit c) (n l : ℕ) whe
     where
       ok : (k x y z : ℕ) → IsStatementNumber k → (18 < k) × (k < 21) → x < frame-variables → y < frame-variables → z < frame-variables → OperandsFit (counts c) n (bare k x y z 0 l)
       ok k x y z is h p q r =
-          bare-ok k x y z 0 is (λ e. omega arith) (λ e. omega arith) (λ e. omega arith) p q r (λ i. absurd (omega arith)) (λ i. absurd (omega arith))
+          bare-ok k x y z 0 is (λ e. omega arith) (λ e. omega arith) (λ e. omega arith) p q r (no-field k (omega arith, omega arith)) (λ i. absurd (omega arith))
           (λ i. absurd (omega arith))
 
       go :
@@ -170,9 +181,9 @@ module _ (t w : List ℕ) (c : Counts.Names) (fits : NamesFit c) (n l : ℕ) whe
       go sum = ok 19 _ _ _ (omega arith, omega arith) (omega arith, omega arith)
       go difference = ok 20 _ _ _ (omega arith, omega arith) (omega arith, omega arith)
 
-  pub empty-ok : (k : ℕ) → IsStatementNumber k → 15 < k → (k ≡ 21 → ⊥) → OperandsFit (counts c) n (bare k 0 0 0 0 l)
+  pub empty-ok : (k : ℕ) → IsStatementNumber k → (15 < k) × (k < 23) → (k ≡ 21 → ⊥) → OperandsFit (counts c) n (bare k 0 0 0 0 l)
   empty-ok k h d no-loop =
-      bare-ok k 0 0 0 0 h (λ e. omega arith) (λ e. omega arith) no-loop (omega arith) (omega arith) (omega arith) (λ i. absurd (omega arith))
+      bare-ok k 0 0 0 0 h (λ e. omega arith) (λ e. omega arith) no-loop (omega arith) (omega arith) (omega arith) (no-field k (omega arith, d .1))
       (λ i. absurd (omega arith)) (λ i. absurd (omega arith))
 
   -- WHAT IS WRITTEN: the row of a good line is the line's item
@@ -207,20 +218,28 @@ module _ (t w : List ℕ) (c : Counts.Names) (fits : NamesFit c) (n l : ℕ) whe
     compute-written difference ws x =
         row-written (counts c) w F n (computeRow Γ vs ws l 20) _ room (compute-ok difference ws x) (compute-means w (computeRow Γ vs ws l 20) tt) h
 
+    pub open-written : (ws : List Name) → openGood Γ vs ws ≡ true → Written (openRow Γ vs ws l) (statement Open) ws
+    unfolding itemOf Items.resolveStatement Items.resolveOpen Scopes.operand openRow
+    open-written ws x = row-written (counts c) w F n (openRow Γ vs ws l) _ room (open-ok ws x) (open-means w (openRow Γ vs ws l) refl) h
+
+    pub shut-written : (ws : List Name) → shutGood Γ vs ws ≡ true → Written (shutRow Γ vs ws l) (statement Shut) ws
+    unfolding itemOf Items.resolveStatement Scopes.operand shutRow
+    shut-written ws x = row-written (counts c) w F n (shutRow Γ vs ws l) _ room (shut-ok ws x) (shut-means w (shutRow Γ vs ws l) refl) h
+
     pub else-written : (ws : List Name) → Written (bare 16 0 0 0 0 l) (statement Else) ws
     unfolding itemOf Items.resolveStatement
     else-written ws =
-        row-written (counts c) w F n (bare 16 0 0 0 0 l) _ room (empty-ok 16 (omega arith, omega arith) (omega arith) (λ e. omega arith))
+        row-written (counts c) w F n (bare 16 0 0 0 0 l) _ room (empty-ok 16 (omega arith, omega arith) (omega arith, omega arith) (λ e. omega arith))
         (else-means w (bare 16 0 0 0 0 l) refl) h
 
     pub again-written : (ws : List Name) → Written (bare 22 0 0 0 0 l) (statement Again) ws
     unfolding itemOf Items.resolveStatement
     again-written ws =
-        row-written (counts c) w F n (bare 22 0 0 0 0 l) _ room (empty-ok 22 (omega arith, omega arith) (omega arith) (λ e. omega arith))
+        row-written (counts c) w F n (bare 22 0 0 0 0 l) _ room (empty-ok 22 (omega arith, omega arith) (omega arith, omega arith) (λ e. omega arith))
         (again-means w (bare 22 0 0 0 0 l) refl) h
 
     pub end-written : (ws : List Name) → Written (bare 18 0 0 0 0 l) (statement End) ws
     unfolding itemOf Items.resolveStatement
     end-written ws =
-        row-written (counts c) w F n (bare 18 0 0 0 0 l) _ room (empty-ok 18 (omega arith, omega arith) (omega arith) (λ e. omega arith))
+        row-written (counts c) w F n (bare 18 0 0 0 0 l) _ room (empty-ok 18 (omega arith, omega arith) (omega arith, omega arith) (λ e. omega arith))
         (end-means w (bare 18 0 0 0 0 l) refl) h

@@ -6,6 +6,7 @@ use Prim.Native.Nat.{ℕ, _+_}
 use lib.Dec.{eqb, ltb}
 use lib.ListN.{getD, drop}
 use Rattle.rules.specs.Base.{Name, bytes, is, eqName, any}
+use Rattle.rules.specs.Syntax.{path}
 use Rattle.rules.specs.Text.{reserved}
 use Rattle.rules.specs.Scope.{Declarations, Variable}
 use Rattle.rules.specs.Names.{isLocal, isInt, isClass, isMethodOf, knownMethod, classNumber, methodNumber, methodOfClass, noDeclaration, variableNumber, variableType}
@@ -16,13 +17,13 @@ use Rattle.read_types.specs.declared.Member.{Member}
 use Rattle.read_names.specs.Rows.{nameIn}
 use Rattle.read_scopes.specs.Meanings.{declarationsIn, variablesIn}
 use Rattle.read_lookups.specs.LookUps.{Looked, typeOf}
-use Rattle.read_types.specs.Types.{MemberIs}
+use Rattle.read_types.specs.Types.{good, chainGood, MemberIs}
 use Rattle.read_lookups.proofs.LookUps.{class-any, method-any}
 use Rattle.tables.specs.declared.Operands.{Operands}
 use Rattle.read_declarations.specs.Texts.{SpanAfter}
 use Rattle.read_declarations.proofs.Lines.{second, third}
 use Rattle.write_plain.specs.declared.TriedRow.{TriedRow}
-use Rattle.write_plain.specs.Plain.{bare, setRow, newRow, callRow, returnRow, computeRow, setGood, newGood, callApart, callKnown, callAgrees, callGood, returnGood, computeGood, RowTried, mayCompute}
+use Rattle.write_plain.specs.Plain.{bare, setRow, newRow, callRow, returnRow, computeRow, openRow, shutRow, setGood, newGood, callApart, callKnown, callAgrees, callGood, returnGood, computeGood, openGood, shutGood, RowTried, mayCompute, mayOpen}
 use Rattle.write_plain.proofs.Rows.{fourth}
 
 pub row-as : (a b : Bool) (o p : Operands) (q : TriedRow) → a ≡ b → o ≡ p → RowTried a o q → RowTried b p q
@@ -51,20 +52,48 @@ module _ (t w : List ℕ) (c : Names) (r l : ℕ) where
   looked-as : {u v : Name} (x : ℕ) → u ≡ v → Looked t w vs u x → Looked t w vs v x
   looked-as x e h = subst (λ u. Looked t w vs u x) e h
 
+  -- what was looked up of two fields of the line
+  member-as :
+      (b : Name → Name → Bool) {u v x f : Name} {m : Member} → u ≡ x → v ≡ f → MemberIs t w Γ vs u v (b u v) m → MemberIs t w Γ vs x f (b x f) m
+  member-as b {u} {f = f} {m} p q h = subst (λ z. MemberIs t w Γ vs z f (b z f) m) p (subst (λ z. MemberIs t w Γ vs u z (b u z) m) q h)
+
   -- SET
   pub set-tried :
       {a b d : Span} {x f : Name} {m : Member} {y : ℕ} {g : Bool} {o : Operands} (q : TriedRow) → SpanAfter t r a →
-      SpanAfter t (a .start + a .len) b → SpanAfter t (b .start + b .len) d → x ≡ nameIn t a → f ≡ nameIn t b → MemberIs t Γ vs x f m →
-      Looked t w vs (nameIn t d) y →
+      SpanAfter t (a .start + a .len) b → SpanAfter t (b .start + b .len) d → x ≡ nameIn t a → f ≡ nameIn t b →
+      MemberIs t w Γ vs x f (good Γ vs (path x f)) m → Looked t w vs (nameIn t d) y →
       g ≡ (m .good && (ltb y 15 && eqName (nameIn t (m .is)) (nameIn t (typeOf w y)))) → o ≡ bare 8 (m .variable) y 0 (m .number) l →
       RowTried g o q → RowTried (setGood Γ vs ws) (setRow Γ vs ws l) q
   unfolding setGood setRow
-  set-tried {a} {b} {d} {x} {f} {m} {y} {g} {o} q p p2 p3 X F i h e k n =
-      let M : MemberIs t Γ vs (getD ws 0 []) (getD ws 1 []) m =
-      subst (λ u. MemberIs t Γ vs u (getD ws 1 []) m) (X ∙ p .name) (subst (λ u. MemberIs t Γ vs x u m) (F ∙ second p p2) i) in
+  set-tried {m = m} {y} {g} {o} q p p2 p3 X F i h e k n =
+      let M = member-as (λ x f. good Γ vs (path x f)) (X ∙ p .name) (F ∙ second p p2) i in
       let Y : Looked t w vs (getD ws 2 []) y = looked-as y (third p p2 p3) h in
       row-as g _ o _ q (e ∙ (λ j. M .good j && (sym (Y .known) j && eqName (M .is j) (sym (Y .type) j))))
-      (k ∙ (λ j. bare 8 (M .variable j) (Y .number j) 0 (M .number j) l)) n
+      (k ∙ (λ j. bare 8 (M .variable .number j) (Y .number j) 0 (M .number j) l)) n
+
+  -- OPEN, SHUT
+  pub open-tried :
+      {a b d : Span} {m : Member} {y : ℕ} {g : Bool} {o : Operands} (q : TriedRow) → SpanAfter t r a → SpanAfter t (a .start + a .len) b →
+      SpanAfter t (b .start + b .len) d → MemberIs t w Γ vs (nameIn t b) (nameIn t d) (chainGood Γ vs (nameIn t b) (nameIn t d)) m →
+      Looked t w vs (nameIn t a) y → g ≡ mayOpen t w m y → o ≡ bare 23 y (m .variable) 0 (m .number) l → RowTried g o q →
+      RowTried (openGood Γ vs ws) (openRow Γ vs ws l) q
+  unfolding openGood openRow
+  open-tried {m = m} {y} {g} {o} q p p2 p3 i h e k n =
+      let M = member-as (chainGood Γ vs) (second p p2) (third p p2 p3) i in
+      let X = M .variable in
+      let Y : Looked t w vs (getD ws 0 []) y = looked-as y (p .name) h in
+      row-as g _ o _ q
+      (e ∙ (λ j. M .good j && (isLocal (Y .number j) && (not (eqb (Y .number j) (X .number j)) && eqName (sym (Y .type) j) (sym (X .type) j)))))
+      (k ∙ (λ j. bare 23 (Y .number j) (X .number j) 0 (M .number j) l)) n
+
+  pub shut-tried :
+      {a b : Span} {m : Member} {o : Operands} (q : TriedRow) → SpanAfter t r a → SpanAfter t (a .start + a .len) b →
+      MemberIs t w Γ vs (nameIn t a) (nameIn t b) (chainGood Γ vs (nameIn t a) (nameIn t b)) m → o ≡ bare 24 (m .variable) 0 0 (m .number) l →
+      RowTried (m .good) o q → RowTried (shutGood Γ vs ws) (shutRow Γ vs ws l) q
+  unfolding shutGood shutRow
+  shut-tried {m = m} {o} q p p2 i k n =
+      let M = member-as (chainGood Γ vs) (p .name) (second p p2) i in
+      row-as (m .good) _ o _ q (M .good) (k ∙ (λ j. bare 24 (M .variable .number j) 0 0 (M .number j) l)) n
 
   -- NEW
   pub new-tried :

@@ -1,4 +1,4 @@
--- Rows of the statements that have no atoms: `set`, `new`, `call`, `return`, `else`, `end`, `add`, `sub`, `again`.
+-- Rows of the statements that have no atoms: `set`, `new`, `call`, `return`, `else`, `end`, `add`, `sub`, `again`, `open`, `shut`.
 use mathlib.Core.Path.{_≡_}
 use mathlib.Core.Bool.{Bool, true, false, not, cond, _&&_, _||_}
 use mathlib.Core.List.{List, []}
@@ -9,7 +9,7 @@ use Rattle.rules.specs.Base.{Name, bytes, is, eqName}
 use Rattle.rules.specs.Limits.{work-bytes}
 use Rattle.rules.specs.Syntax.{path}
 use Rattle.rules.specs.Text.{reserved}
-use Rattle.rules.specs.Grammar.{isComputing, set-kind, new-kind, call-kind, return-kind, else-kind, end-kind, again-kind}
+use Rattle.rules.specs.Grammar.{isComputing, set-kind, new-kind, call-kind, return-kind, else-kind, end-kind, again-kind, open-kind, shut-kind}
 use Rattle.rules.specs.Scope.{MethodDeclaration, Declarations, Variable, Scope}
 use Rattle.rules.specs.Names.{isLocal, inScope, isInt, isClass, knownMethod, variableNumber, variableType, fieldNumber, fieldType, classNumber, methodNumber, methodOfClass}
 use Rattle.rules.specs.Items.{itemOf}
@@ -23,7 +23,7 @@ use Rattle.read_scopes.specs.declared.Names.{Names}
 use Rattle.read_scopes.specs.Meanings.{declarationsIn, variablesIn}
 use Rattle.read_lookups.specs.LookUps.{typeOf}
 use Rattle.read_types.specs.declared.Member.{Member}
-use Rattle.read_types.specs.Types.{good}
+use Rattle.read_types.specs.Types.{good, chainGood}
 use Rattle.rules.specs.Syntax.{Program}
 use Rattle.rules.specs.Reading.{withItem}
 use Rattle.tables.specs.declared.Operands.{Operands}
@@ -55,6 +55,12 @@ module _ (Γ : Declarations) (vs : List Variable) (ws : List Name) (l : ℕ) whe
   unfoldable pub computeRow : ℕ → Operands
   computeRow k = bare k (variableNumber vs (getD ws 0 [])) (variableNumber vs (getD ws 1 [])) (variableNumber vs (getD ws 2 [])) 0 l
 
+  unfoldable pub openRow : Operands
+  openRow = bare open-kind (variableNumber vs (getD ws 0 [])) (variableNumber vs (getD ws 1 [])) 0 (fieldNumber Γ (getD ws 2 [])) l
+
+  unfoldable pub shutRow : Operands
+  shutRow = bare shut-kind (variableNumber vs (getD ws 0 [])) 0 0 (fieldNumber Γ (getD ws 1 [])) l
+
   -- by the number of its kind
   unfoldable pub plainRow : ℕ → Operands
   plainRow k =
@@ -63,7 +69,9 @@ module _ (Γ : Declarations) (vs : List Variable) (ws : List Name) (l : ℕ) whe
       (cond (eqb k call-kind) callRow
       (cond (eqb k return-kind) returnRow
       (cond (isComputing k) (computeRow k)
-      (bare k 0 0 0 0 l)))))
+      (cond (eqb k open-kind) openRow
+      (cond (eqb k shut-kind) shutRow
+      (bare k 0 0 0 0 l)))))))
 
 -- THE TESTS OF NUMBERS 6, 7 AND 9, by kind, of a line of these fields that has its form
 
@@ -115,6 +123,18 @@ module _ (Γ : Declarations) (vs : List Variable) (ws : List Name) where
   unfoldable pub computeGood : Bool
   computeGood = isLocal (variableNumber vs (getD ws 0 [])) && (isInt vs (getD ws 0 []) && (isInt vs (getD ws 1 []) && isInt vs (getD ws 2 [])))
 
+  -- y is a local of x's class, and not x
+  unfoldable pub openGood : Bool
+  openGood =
+      let y : Name = getD ws 0 [] in
+      let x : Name = getD ws 1 [] in
+      chainGood Γ vs x (getD ws 2 [])
+      && (isLocal (variableNumber vs y)
+      && (not (eqb (variableNumber vs y) (variableNumber vs x)) && eqName (variableType vs y) (variableType vs x)))
+
+  unfoldable pub shutGood : Bool
+  shutGood = chainGood Γ vs (getD ws 0 []) (getD ws 1 [])
+
   -- by the number of its kind; `else`, `end` and `again` name nothing
   unfoldable pub plainGood : ℕ → Bool
   plainGood k =
@@ -123,7 +143,9 @@ module _ (Γ : Declarations) (vs : List Variable) (ws : List Name) where
       (cond (eqb k call-kind) callGood
       (cond (eqb k return-kind) returnGood
       (cond (isComputing k) computeGood
-      true))))
+      (cond (eqb k open-kind) openGood
+      (cond (eqb k shut-kind) shutGood
+      true))))))
 
 -- the row o just if the test is passed
 unfoldable pub RowTried : Bool → Operands → TriedRow → Type 0
@@ -164,12 +186,18 @@ abbrev pub mayCompute : List ℕ → List ℕ → ℕ → ℕ → ℕ → Bool
 mayCompute t w x y z =
     isLocal x && (is "int" (nameIn t (typeOf w x)) && (is "int" (nameIn t (typeOf w y)) && is "int" (nameIn t (typeOf w z))))
 
+-- x.f may be a chain, and y is a local of x's class, and not x
+abbrev pub mayOpen : List ℕ → List ℕ → Member → ℕ → Bool
+mayOpen t w x y =
+    x .good
+    && (isLocal y && (not (eqb y (x .variable)) && eqName (nameIn t (typeOf w y)) (nameIn t (typeOf w (x .variable)))))
+
 -- by the number of the kind
 unfoldable pub isPlain : ℕ → Bool
 isPlain k =
     eqb k set-kind
     || (eqb k new-kind
-    || (eqb k call-kind || (eqb k return-kind || (eqb k else-kind || (eqb k end-kind || (eqb k again-kind || isComputing k))))))
+    || (eqb k call-kind || (eqb k return-kind || (eqb k else-kind || (eqb k end-kind || (eqb k again-kind || (eqb k open-kind || (eqb k shut-kind || isComputing k))))))))
 
 -- the line of this kind whose word ends at r has its form
 pub record PlainFollows (t : List ℕ) (k r : ℕ) : Type 0 where

@@ -1,4 +1,6 @@
 // The rows of statements that have no atom.
+mod chains;
+
 use read_names::Span;
 use read_scopes::Names;
 use read_types::Member;
@@ -263,6 +265,8 @@ pub fn plain_row(text: &[u8], work: &[u8], c: Names, kind: u8, r: usize, line: u
         Kind::RETURN => return_row(text, work, c, r, line),
         Kind::ADD => compute_row(text, work, c, Kind::ADD, r, line),
         Kind::SUB => compute_row(text, work, c, Kind::SUB, r, line),
+        Kind::OPEN => chains::open_row(text, work, c, r, line),
+        Kind::SHUT => chains::shut_row(text, work, c, r, line),
         _ => row_if(true, row(kind, 0, 0, 0, 0, line)),
     }
 }

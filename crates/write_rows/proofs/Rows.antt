@@ -1,19 +1,20 @@
 -- One more statement row.
 use mathlib.Core.Path.{_≡_, refl, ap, _∙_}
 use mathlib.Core.List.{List, [], _∷_, _++_}
-use mathlib.Core.Logic.{inl, inr}
+use mathlib.Core.Logic.{inl, inr, ⊎-elim}
 use Prim.Native.Nat.{ℕ, suc, _+_, _/_, _%_, _≤_, _<_}
 use native.Mathlib.Omega.{arith}
 use lib.ListN.{length, getD}
 use borrow.Author.Count.{below-more}
 use Rattle.rules.specs.Limits.{most-statements, work-bytes}
+use Rattle.rules.specs.Grammar.{set-kind, open-kind}
 use Rattle.rules.specs.Syntax.{Stmt, Row, Program}
 use Rattle.rules.specs.Items.{aStatement}
 use Rattle.rules.specs.Reading.{withItem}
 use Rattle.tables.specs.declared.Operands.{Operands}
 use Rattle.tables.specs.Layout.{names-at, most-atom-rows}
 use Rattle.tables.specs.Decode.{byteAt, halfAt, rowPlace, operandsAt, stmtOf, rowAt}
-use Rattle.tables.specs.Tables.{Declared, OperandsFit}
+use Rattle.tables.specs.Tables.{Declared, HasField, OperandsFit}
 use Rattle.tables.specs.Stores.{Kept}
 use Rattle.tables.proofs.Runs.{run-grown, end-length}
 use Rattle.tables.proofs.Kept.{all-rows, stmt-kept}
@@ -21,6 +22,10 @@ use Rattle.write_rows.specs.Puts.{rowBytes, putRow, RowBytes}
 use Rattle.write_rows.specs.Holds.{Holds}
 use Rattle.write_rows.proofs.Puts.{put-length, put-same, put-same-half, Clear, put-kept}
 use Rattle.write_rows.proofs.Kept.{method-more, SameRows, holds-kept}
+
+-- the kinds between that of `set` and that of `open` name no field
+pub no-field : {A : Type 0} (k : ℕ) → (set-kind < k) × (k < open-kind) → HasField k → A
+no-field k l h = ⊎-elim (λ e. absurd (omega arith)) (λ h. ⊎-elim (λ e. absurd (omega arith)) (λ e. absurd (omega arith)) h) h
 
 module _ (w : List ℕ) (i : ℕ) (r : Operands) (size : length w ≡ work-bytes) (room : i < most-statements) where
   row-byte : (k j : ℕ) → j ≡ rowPlace i + k → k < 12 → byteAt (putRow w i r) j ≡ getD (rowBytes r) k 0

@@ -46,7 +46,7 @@ use Rattle.tables.specs.Tables.{SideFits, Declared, OperandsFit}
 use Rattle.write_rows.specs.Holds as Holds
 use Rattle.write_rows.specs.Holds.{AtomOk, accessOf, Holds}
 use Rattle.write_rows.proofs.Atoms.{atom-names, atom-length}
-use Rattle.write_rows.proofs.Rows.{row-bytes, row-names, row-length}
+use Rattle.write_rows.proofs.Rows.{no-field, row-bytes, row-names, row-length}
 use Rattle.write_rows.proofs.Statements.{let-written, if-written}
 use Rattle.read_declarations.specs.Texts.{SpanAfter}
 use Rattle.read_declarations.specs.Declares.{lineWith}
@@ -70,7 +70,7 @@ rel-begins u e = rw e (or-true (isPermit u))
 no-permit : (u : Name) → isRel u ≡ true → isPermit u ≡ false
 unfolding Base.opened isRel isPermit
 no-permit u e =
-    of-atom-word (λ u. isRel u ≡ true → isPermit u ≡ false) (λ e. true-false (sym e)) (λ e. true-false (sym e)) (λ e. refl) (λ e. refl) u (rel-begins u e) e
+    of-atom-word (λ u. isRel u ≡ true → isPermit u ≡ false) (λ e. true-false (sym e)) (λ e. true-false (sym e)) (λ e. true-false (sym e)) (λ e. refl) (λ e. refl) u (rel-begins u e) e
 
 no-access : (u a b : Name) → isRel u ≡ true → atomOf u a b ≡ cmp (relOf u) (exprOf a) (exprOf b)
 unfolding atomOf
@@ -120,7 +120,7 @@ module _ (Γ : Declarations) (vs : List Variable) (s : Scope) where
   let-shuffle true true true true false h = refl
 
   let-two : (ws : List Name) → length ws ≡ 2 → isGood Γ vs s (lineWith (statement Let) ws) ≡ letGood Γ vs ws
-  unfolding Base.all Grammar.opened Scopes.opened Names.allKnown Names.known Names.allTyped Names.ofClass Names.sidesAgree Names.allAssignable Names.mayBeAssigned Names.callApart formulaOf isGood letGood good
+  unfolding Base.all Grammar.opened Scopes.opened Names.allKnown Names.known Names.allTyped Names.ofClass Names.sidesAgree Names.allAssignable Names.mayBeAssigned Names.callApart Names.openApart formulaOf isGood letGood good
   let-two [] e = absurd (omega arith)
   let-two (u ∷ []) e = absurd (omega arith)
   let-two (u ∷ v ∷ []) e =
@@ -153,7 +153,7 @@ one-ok D k x n l o s =
       x = s;
       y = omega arith;
       z = omega arith;
-      field = λ e. absurd (omega (arith, b));
+      field = no-field k (omega (arith, b), omega (arith, b));
       class = λ e. absurd (⊎-elim (λ z. omega arith) (λ z. omega arith) o);
       method = λ e. absurd (⊎-elim (λ z. omega arith) (λ z. omega arith) o);
       atoms = omega arith;

@@ -4,9 +4,10 @@
 use std::path::{Path, PathBuf};
 use std::process::Command;
 
-const WORDS: [&str; 22] = [
+const WORDS: [&str; 24] = [
     "class", "field", "method", "requires", "ensures", "main", "var", "set", "let", "add", "sub",
-    "new", "call", "return", "assert", "release", "if", "else", "join", "loop", "again", "end",
+    "new", "call", "open", "shut", "return", "assert", "release", "if", "else", "join", "loop",
+    "again", "end",
 ];
 
 fn root() -> PathBuf {
@@ -44,7 +45,7 @@ fn colour(place: usize, field: &str) -> Colour {
     match (place, first) {
         _ if field.contains(' ') => Colour::Bad,
         (0, _) => Colour::Word,
-        (_, "acc" | "read" | "eq" | "ne") => Colour::Atom,
+        (_, "acc" | "read" | "chain" | "eq" | "ne") => Colour::Atom,
         (_, "int") => Colour::Type,
         (_, "null" | "this" | "result") => Colour::Reserved,
         _ if first.starts_with(|letter: char| letter == '-' || letter.is_ascii_digit()) => {
@@ -72,6 +73,8 @@ fn compare(editor: &str, text: &str, given: &str, known: impl Fn(&str) -> Option
 
 #[test]
 fn the_words() {
+    let known: Vec<&str> = model::form::SHAPES.iter().map(|shape| shape.word).collect();
+    assert_eq!(known, WORDS);
     let all = WORDS.join("|");
     assert!(
         read("editors/vscode/syntaxes/station.tmLanguage.json").contains(&format!("^({all})(?="))

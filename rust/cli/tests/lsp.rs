@@ -230,14 +230,14 @@ fn completion_of_names_in_scope() {
     let text = "class\tCard\nfield\tCard\tprev\nfield\tint\ttag\nmethod\tint\tmark\tint\tk\nrequires\t\nensures\nend\n\
                 main\nvar\tCard\tc\nset\tc\t\ncall\tc\tc\t\nassert\teq\tc.\n\nnew\tc\t\n";
     client.open(text);
-    assert_eq!(client.labels(4, 9), ["acc", "read", "eq", "ne"]);
+    assert_eq!(client.labels(4, 9), ["acc", "read", "chain", "eq", "ne"]);
     assert_eq!(client.labels(9, 6), ["prev", "tag"]);
     assert_eq!(client.labels(10, 9), ["mark"]);
     assert_eq!(client.labels(11, 12), ["c.prev", "c.tag"]);
     assert_eq!(client.labels(9, 4), ["c"]);
     assert_eq!(client.labels(13, 6), ["Card"]);
     assert_eq!(client.labels(8, 4), ["int", "Card"]);
-    for word in ["let", "add", "sub", "loop"] {
+    for word in ["let", "add", "sub", "open", "shut", "loop"] {
         assert!(client.labels(12, 0).contains(&word.to_string()));
     }
     for word in ["return", "again"] {
@@ -246,8 +246,13 @@ fn completion_of_names_in_scope() {
     // A condition first, then the invariant; in the loop its `again`.
     client.change("class\tS\nfield\tint\tn\nmain\nvar\tS\ts\nloop\t\tS\nloop\tne\ts\tnull\t\n\n");
     assert_eq!(client.labels(4, 5), ["eq", "ne"]);
-    assert_eq!(client.labels(5, 15), ["acc", "read", "eq", "ne"]);
+    assert_eq!(client.labels(5, 15), ["acc", "read", "chain", "eq", "ne"]);
     assert!(client.labels(6, 0).contains(&"again".to_string()));
+    // The fields of `open` and `shut` are those of their card.
+    client.change("class\tS\nfield\tS\tp\nmain\nvar\tS\ts\nopen\ts\ts\t\nshut\ts\t\n");
+    assert_eq!(client.labels(4, 5), ["s"]);
+    assert_eq!(client.labels(4, 9), ["p"]);
+    assert_eq!(client.labels(5, 7), ["p"]);
     client.end();
 }
 

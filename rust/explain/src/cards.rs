@@ -2,6 +2,7 @@
 //! that are open, as the model's machine has them.
 
 use crate::cause::{machine_at, value_shown, AGAIN};
+use crate::chains;
 use crate::json::Json;
 use crate::script::{shown, Script};
 use model::machine::Machine;
@@ -14,6 +15,8 @@ pub struct Field {
     pub name: String,
     /// Is it a link?
     pub link: bool,
+    /// Is it a link to a card of the same class, by which a chain may go?
+    pub own: bool,
     /// A number, or the number of a card; 0 for null.
     pub value: i32,
     /// The frame that holds it, from main's 0, the first if two have a half each;
@@ -73,6 +76,7 @@ pub fn of(script: &Script, machine: &Machine) -> Cards {
         let fields = class.fields.iter().enumerate().map(|(slot, field)| Field {
             name: shown(field.name),
             link: field.kind != Type::Int,
+            own: field.kind == Type::Class(class.name),
             value: machine.heap[object.first + slot],
             holder: holder(object.first + slot),
             halves: machine.holders(object.first + slot).collect(),
@@ -132,6 +136,7 @@ impl Cards {
             }
             let _ = writeln!(out, "{}", self.held(card));
         }
+        out.push_str(&chains::table(self));
         out
     }
 
@@ -164,7 +169,7 @@ impl Cards {
     /// All of it as JSON.
     pub fn json(&self) -> Json {
         let cards = self.cards.iter().enumerate().map(|(at, card)| {
-            let fields = card.fields.iter().map(|field| {
+            let fields = card.fields.iter().enumerate().map(|(slot, field)| {
                 let value = match (field.link, field.value) {
                     (true, 0) => Json::Null,
                     (_, value) => value.into(),
@@ -177,6 +182,7 @@ impl Cards {
                     .with("name", field.name.as_str())
                     .with("link", field.link)
                     .with("value", value)
+                    .with("ring", chains::in_ring(self, at, slot))
                     .with("holder", field.holder)
                     .with("holders", Json::List(holders.collect()))
             });

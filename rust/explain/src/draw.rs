@@ -1,9 +1,10 @@
 //! A drawing: the cards and their links after a run, as an SVG picture.
 //! Cards stand in columns by how far they are from main's variables; links are
 //! arrows; a field's colour says which open block holds it, two colours that two
-//! have a half each.
+//! have a half each. Chains that one block holds to the end, and rings, are marked.
 
 use crate::cards::{self, Card, Cards, Field};
+use crate::chains::{marks, part, Part};
 use crate::report::Report;
 use std::cmp::Ordering;
 use std::collections::HashMap;
@@ -181,7 +182,7 @@ fn draw_field(out: &mut String, field: &Field, (x, top): (i32, i32)) {
 /// An arrow from a field to the head of a card. It leaves on the right and comes
 /// in on the left where the card stands further right, the other way round
 /// where it stands further left, and bows where it stands in the same column.
-fn draw_link(out: &mut String, from: (i32, i32), to: (i32, i32)) {
+fn draw_link(out: &mut String, from: (i32, i32), to: (i32, i32), part: Option<Part>) {
     let (y, ty) = (from.1, to.1 + ROW / 2);
     let (left, right) = (from.0 + 10, from.0 + CARD_WIDTH - 10);
     let (x, tx, bend) = match to.0.cmp(&from.0) {
@@ -194,9 +195,17 @@ fn draw_link(out: &mut String, from: (i32, i32), to: (i32, i32)) {
         bend => (x + bend, tx - bend),
     };
     let class = if to.0 > from.0 { "link" } else { "link back" };
+    let marked = match part {
+        None => format!(r#"class="{class}""#),
+        Some(Part::Ring) => format!(r#"class="{class} ring""#),
+        Some(Part::Chain(holder)) => {
+            let colour = colour(Some(holder));
+            format!(r#"class="{class} chain" style="stroke: {colour}""#)
+        }
+    };
     let _ = writeln!(
         out,
-        r#"<path d="M {x} {y} C {one} {y}, {other} {ty}, {tx} {ty}" class="{class}" marker-end="url(#arrow)"/>"#
+        r#"<path d="M {x} {y} C {one} {y}, {other} {ty}, {tx} {ty}" {marked} marker-end="url(#arrow)"/>"#
     );
     let _ = writeln!(out, r#"<circle cx="{x}" cy="{y}" r="3" class="dot"/>"#);
 }
@@ -206,6 +215,7 @@ text { font: 13px sans-serif; fill: #1a202c; } .head { font-weight: bold; } \
 .name { fill: #2b6cb0; font-style: italic; } .small { font-size: 12px; fill: #4a5568; } \
 .card { fill: #f7fafc; stroke: #4a5568; } .shared { stroke: #c53030; stroke-width: 2.5; } \
 .link { fill: none; stroke: #2d3748; stroke-width: 1.4; } .back { stroke: #c53030; stroke-dasharray: 5 3; } \
+.chain { stroke-width: 3; } .ring { stroke: #c53030; stroke-width: 3; } \
 .dot { fill: #2d3748; }";
 
 fn legend(out: &mut String, cards: &Cards, top: i32) -> i32 {
@@ -234,6 +244,10 @@ fn legend(out: &mut String, cards: &Cards, top: i32) -> i32 {
         text(out, MARGIN, y, "small", "two colours: a half each");
         y += 16;
     }
+    for said in marked(cards) {
+        text(out, MARGIN, y, "small", said);
+        y += 16;
+    }
     text(
         out,
         MARGIN,
@@ -242,6 +256,18 @@ fn legend(out: &mut String, cards: &Cards, top: i32) -> i32 {
         "red frame: more than one link leads there; dashed: a link back",
     );
     y + 16
+}
+
+/// What thick links mean, where there are some.
+fn marked(cards: &Cards) -> Vec<&'static str> {
+    let all = cards.cards.iter().enumerate();
+    let all = all.flat_map(|(at, card)| links(card).map(move |(slot, _)| (at, slot)));
+    let parts: Vec<Part> = all.filter_map(|(at, slot)| part(cards, at, slot)).collect();
+    let chain = parts.iter().any(|part| matches!(part, Part::Chain(_)));
+    let ring = parts.contains(&Part::Ring);
+    let chain = chain.then_some("thick link: a chain, in the colour of who holds all of it");
+    let ring = ring.then_some("thick red link: a ring, which is no chain");
+    chain.into_iter().chain(ring).collect()
 }
 
 /// The picture of some cards, as SVG.
@@ -255,14 +281,14 @@ pub fn svg(cards: &Cards, title: &str) -> String {
             *into.entry(to).or_default() += 1;
             let (x, y) = places[from];
             let start = (x, y + ROW * (slot as i32 + 1) + ROW / 2);
-            draw_link(&mut body, start, places[to]);
+            draw_link(&mut body, start, places[to], part(cards, from, slot));
         }
     }
     let mut boxes = String::new();
     for (at, card) in cards.cards.iter().enumerate() {
-        let names = labels
-            .get(&at)
-            .map_or(String::new(), |names| names.join(", "));
+        let names = labels.get(&at).into_iter().flatten().cloned();
+        let names: Vec<String> = names.chain(marks(cards, at)).collect();
+        let names = names.join(", ");
         let shared = into.get(&at).is_some_and(|&count| count > 1);
         draw_card(&mut boxes, at, card, places[at], &names, shared);
     }

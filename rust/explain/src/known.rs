@@ -89,6 +89,19 @@ fn heir<'a>(
     Some(followed.left)
 }
 
+/// The path of a permission, or the variable of a chain.
+fn named<'a>(held: &Permission<'a>) -> Term<'a> {
+    held.path().unwrap_or(Term::Var(held.var))
+}
+
+/// The shares that a permission may have after a line, its own first: a half may go,
+/// or come back.
+fn shares(held: &Permission) -> impl Iterator<Item = Share> {
+    let path = held.share.lists_path();
+    let halves = Share::OF_PATHS.into_iter().filter(move |_| path);
+    [held.share].into_iter().chain(halves)
+}
+
 /// The atoms that are dropped and have others in their place, which are added:
 /// they are taken from both lists.
 fn turned<'a>(
@@ -100,8 +113,10 @@ fn turned<'a>(
 ) -> Vec<(String, String)> {
     let names = script.names_at(place);
     let heir = |term| heir(script, place, before, term);
-    let permission = |held: &Permission<'a>, share| match heir(held.path())? {
+    // A chain is no path: it goes with its variable.
+    let permission = |held: &Permission<'a>, share| match heir(named(held))? {
         Term::Path(var, field) => Some(names.held(&Permission { share, var, field })),
+        Term::Var(var) => Some(names.held(&Permission { var, ..*held })),
         _ => None,
     };
     let fact = |fact: &Fact<'a>| {
@@ -124,8 +139,7 @@ fn turned<'a>(
         }
     };
     for held in &before.permissions {
-        // Or a half went, or came back.
-        for share in [held.share].into_iter().chain(Share::ALL) {
+        for share in shares(held) {
             turn(names.held(held), &|| permission(held, share));
         }
     }

@@ -2,6 +2,7 @@
 
 use crate::cause::value_shown;
 use crate::json::Json;
+use crate::moves::{holders, Holders, Moves};
 use crate::objects;
 use crate::report::Report;
 use crate::rounds::Rounds;
@@ -32,7 +33,7 @@ pub struct Row {
 /// to another holder.
 fn card_changes(script: &Script, before: &Before, machine: &Machine) -> Vec<String> {
     let mut said = Vec::new();
-    let now = holders(machine);
+    let moves = Moves::of(script, &before.holders, machine);
     for (at, object) in machine.objects.iter().enumerate() {
         let class = &script.program.classes[object.class];
         if at >= before.objects {
@@ -50,44 +51,10 @@ fn card_changes(script: &Script, before: &Before, machine: &Machine) -> Vec<Stri
             if new != before.heap[place] {
                 said.push(format!("{name} = {}", value_shown(Some(field.kind), new)));
             }
-            for (halves, to) in moved(&before.holders[place], &now[place]) {
-                let of = if halves == 1 { "half of " } else { "" };
-                said.push(format!("{of}{name} to {}", holder(script, machine, to)));
-            }
+            said.extend(moves.said(at, slot));
         }
     }
     said
-}
-
-/// The frames that hold halves of a location, from main's 0, and how many.
-type Holders = Vec<(usize, u8)>;
-
-/// Who holds each location.
-fn holders(machine: &Machine) -> Vec<Holders> {
-    let of = |place| machine.holders(place).collect();
-    (0..machine.heap.len()).map(of).collect()
-}
-
-/// The halves that each frame gained, and those that nobody holds any more.
-fn moved(before: &Holders, now: &Holders) -> Vec<(u8, Option<usize>)> {
-    let sum = |holders: &Holders| holders.iter().map(|held| held.1).sum::<u8>();
-    let had = |frame| {
-        let held = before.iter().find(|held| held.0 == frame);
-        held.map_or(0, |held| held.1)
-    };
-    let gained = now.iter();
-    let gained = gained.map(|&(frame, halves)| (halves.saturating_sub(had(frame)), Some(frame)));
-    let lost = sum(before).saturating_sub(sum(now));
-    let all = gained.chain([(lost, None)]);
-    all.filter(|moved| moved.0 > 0).collect()
-}
-
-fn holder(script: &Script, machine: &Machine, holder: Option<usize>) -> String {
-    let frame = holder.and_then(|at| machine.frames.get(at));
-    frame.map_or("nobody".to_string(), |frame| {
-        let header = script.program.blocks[frame.block].header;
-        header.map_or("main".to_string(), |header| shown(header.name))
-    })
 }
 
 /// What a step did: cards, fields, and values of the block that runs after it.

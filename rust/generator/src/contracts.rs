@@ -1,10 +1,12 @@
-//! Contracts of methods: permissions, whole or by halves, and facts.
+//! Contracts of methods: permissions, whole, by halves or as chains, and facts.
 
 use super::render;
 use super::rng::Rng;
 use super::shares::{asked, given_back, permissions, Asked};
+use super::writer::Style;
 use crate::limits;
 use crate::names::{Atom, Block, Expr, Formula, Path, Program, Type, Var, PARAM, RESULT, THIS};
+use crate::text::Share;
 
 /// The paths of a variable.
 fn paths<'a>(program: &Program<'a>, block: &Block<'a>, var: Var) -> Vec<Path<'a>> {
@@ -82,7 +84,7 @@ fn formula<'a>(
 ) -> Formula<'a> {
     let mut formula = permissions(rng, held);
     let held = formula.iter().filter_map(|atom| match atom {
-        Atom::Permission(_, path) => Some(*path),
+        Atom::Permission(share, path) => share.lists_path().then_some(*path),
         _ => None,
     });
     let held: Vec<Path> = held.collect();
@@ -94,13 +96,28 @@ fn formula<'a>(
     formula
 }
 
-/// Some paths of `this` and w, with how each is asked for; of a hundred so many
+/// How a path of a contract is asked for: as a chain where one goes by it, whole, or
 /// by halves.
+fn way<'a>(
+    rng: &mut Rng,
+    program: &Program<'a>,
+    block: &Block<'a>,
+    style: &Style,
+    path: Path<'a>,
+) -> Asked {
+    let link = kind_of(program, block, path) == render::type_of(block, path.var);
+    match link && rng.chance(style.chains) {
+        true => &[Share::Chain],
+        false => asked(rng, style.halves),
+    }
+}
+
+/// Some paths of `this` and w, with how each is asked for.
 fn held<'a>(
     rng: &mut Rng,
     program: &Program<'a>,
     block: &Block<'a>,
-    halves: usize,
+    style: &Style,
 ) -> Vec<(Asked, Path<'a>)> {
     let mut held = paths(program, block, THIS);
     held.extend(paths(program, block, PARAM));
@@ -108,12 +125,18 @@ fn held<'a>(
     held.retain(|_| rng.chance(share));
     held.truncate(6);
     let held = held.into_iter();
-    held.map(|path| (asked(rng, halves), path)).collect()
+    held.map(|path| (way(rng, program, block, style, path), path))
+        .collect()
 }
 
-/// What a method may ask of its `this` and w beside permissions: that `this` is
-/// an object, or, with halves, that both are one.
+/// What a method may ask of its `this` and w beside permissions: that they are
+/// objects, or, with halves, that both are one.
 fn objects<'a>(rng: &mut Rng, block: &Block<'a>, halves: usize, requires: &mut Formula<'a>) {
+    let chain =
+        |atom: &Atom| matches!(atom, Atom::Permission(Share::Chain, path) if path.var == PARAM);
+    if requires.len() < limits::ATOMS && requires.iter().any(chain) && rng.chance(40) {
+        requires.push(Atom::Ne(Expr::Var(PARAM), Expr::Null));
+    }
     if requires.len() < limits::ATOMS && rng.chance(50) {
         requires.insert(0, Atom::Ne(Expr::Var(THIS), Expr::Null));
     }
@@ -129,18 +152,18 @@ pub fn contract<'a>(
     rng: &mut Rng,
     program: &Program<'a>,
     block: &Block<'a>,
-    halves: usize,
+    style: &Style,
 ) -> (Formula<'a>, Formula<'a>) {
-    let mut held = held(rng, program, block, halves);
+    let mut held = held(rng, program, block, style);
     let mut requires = formula(rng, program, block, &[THIS, PARAM], &held, 2);
-    objects(rng, block, halves, &mut requires);
+    objects(rng, block, style.halves, &mut requires);
     held.retain(|_| rng.chance(85));
     for (asked, _) in &mut held {
-        *asked = given_back(rng, halves, asked);
+        *asked = given_back(rng, style.halves, asked);
     }
     if rng.chance(40) {
         let made = paths(program, block, RESULT).into_iter();
-        held.extend(made.map(|path| (asked(rng, halves), path)));
+        held.extend(made.map(|path| (way(rng, program, block, style, path), path)));
     }
     let vars = [THIS, PARAM, RESULT];
     let ensures = formula(rng, program, block, &vars, &held, 3);

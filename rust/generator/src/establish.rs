@@ -4,6 +4,7 @@
 use super::writer::Writer;
 use crate::checker::{with_vars, State};
 use crate::names::{Action, Atom, Expr, Var, PARAM, RESULT, THIS};
+use crate::text::Share;
 
 impl<'p, 'a> Writer<'p, 'a> {
     /// The statements after which the block's `end` shows its ensures, or that
@@ -52,7 +53,11 @@ impl<'p, 'a> Writer<'p, 'a> {
                 continue;
             }
             let more = match formula[end - 1] {
-                Atom::Permission(_, path) => self.make(path.var)?,
+                Atom::Permission(Share::Chain, path) => self.link(&state, path)?,
+                Atom::Permission(_, path) => match self.opened(&state, path) {
+                    Some(actions) => actions,
+                    None => self.make(path.var)?,
+                },
                 Atom::Eq(left, right) => match self.assign(left, right) {
                     Some(actions) => actions,
                     None => self.assign(right, left)?,

@@ -4,7 +4,7 @@ use super::misses::{fields, Fields};
 use super::rng::Rng;
 
 /// The places of the lines with one of the words.
-fn places(lines: &Fields, words: &[&[u8]]) -> Vec<usize> {
+pub(super) fn places(lines: &Fields, words: &[&[u8]]) -> Vec<usize> {
     let named = |&at: &usize| words.contains(&lines[at][0].as_slice());
     (0..lines.len()).filter(named).collect()
 }
@@ -31,7 +31,7 @@ pub fn loop_form(rng: &mut Rng, lines: &mut Fields) {
     match (line[0].as_slice(), rng.below(4)) {
         // No condition, or one of another kind.
         (b"loop", 0) => line.truncate(1),
-        (b"loop", 1) => line[1] = rng.pick(&["acc", "read"]).into(),
+        (b"loop", 1) => line[1] = rng.pick(&["acc", "read", "chain"]).into(),
         // Nine atoms or ten.
         (b"loop", 2) => {
             let length = 1 + 3 * rng.within(9, 10);

@@ -1,4 +1,4 @@
-//! Full states of the checker, by permissions, facts or halves.
+//! Full states of the checker, by permissions, facts, halves or chains.
 
 use super::program::joined;
 use super::recipes::push;
@@ -103,6 +103,44 @@ pub fn full_of_halves(rng: &mut Rng) -> Vec<u8> {
             format!("release read c{card} f{}", rng.below(8)),
             format!("release acc c{card} f{}", rng.below(8)),
             format!("call c{} m some a", 8 + rng.below(2)),
+        ];
+        push(&mut lines, &rng.pick(&more));
+    }
+    push(&mut lines, "end");
+    joined(&lines)
+}
+
+/// States of 64 permissions, or nearly so, most of them chains, in which cards are
+/// made, shut and opened.
+pub fn full_of_chains(rng: &mut Rng) -> Vec<u8> {
+    let mut lines = Vec::new();
+    let eight = " chain result p".repeat(8);
+    let source = "class S\nfield S p\nmethod S all int w\nrequires\nensuresCHAINS\nvar S x\nlet x null\nreturn x\n\
+                  end\nmethod int look S w\nrequires chain w p\nensures chain w p\nend\nmain\nvar S s\n\
+                  var S t\nvar S u\nvar int a";
+    push(&mut lines, &source.replace("CHAINS", &eight));
+    (0..8).for_each(|at| push(&mut lines, &format!("var S c{at}")));
+    push(&mut lines, "new s S");
+    if rng.chance(80) {
+        push(&mut lines, "release acc s p");
+    }
+    let calls = rng.pick(&[7, 8, 8, 8]);
+    (0..calls).for_each(|at| push(&mut lines, &format!("call c{at} s all a")));
+    for _ in 0..rng.pick(&[0, 1, 1, 1, 2, 3]) {
+        let card = rng.below(calls);
+        push(&mut lines, &format!("release chain c{card} p"));
+    }
+    for _ in 0..rng.within(1, 5) {
+        let card = rng.below(calls);
+        let more = [
+            "new t S".to_string(),
+            "new t S\nshut t p".to_string(),
+            "new t S\nshut t p\nopen u t p".to_string(),
+            "new t S\nshut t p\nassert chain t p\nopen u t p".to_string(),
+            "new t S\nset t p CARD\nshut t p".replace("CARD", &format!("c{card}")),
+            format!("call a s look c{card}"),
+            format!("let c{card} null\nassert chain c{card} p"),
+            format!("if ne c{card} null\nopen u c{card} p\nelse\njoin chain c{card} p"),
         ];
         push(&mut lines, &rng.pick(&more));
     }

@@ -4,10 +4,13 @@
 
 #![forbid(unsafe_code)]
 
+mod chains;
 mod contracts;
 mod establish;
+mod facts;
 mod forms;
 mod full;
+mod links;
 pub mod misses;
 pub mod mutate;
 mod nested;
@@ -15,11 +18,13 @@ pub mod program;
 pub mod readers;
 pub mod recipes;
 mod render;
+pub mod rings;
 pub mod rng;
 pub mod rounds;
 pub mod routes;
 mod shares;
 mod skeleton;
+pub mod walks;
 mod writer;
 
 // The parts of the model by which texts are written.
@@ -48,14 +53,14 @@ impl Kind {
     /// A kind, each in its share; a text that is too long is rare.
     pub fn random(rng: &mut Rng) -> Kind {
         match rng.below(1_000) {
-            0..=249 => Kind::Accepted,
-            250..=251 => Kind::Miss(2),
-            252..=579 => Kind::Miss(rng.pick(&[
+            0..=219 => Kind::Accepted,
+            220..=221 => Kind::Miss(2),
+            222..=549 => Kind::Miss(rng.pick(&[
                 3, 4, 5, 5, 6, 7, 8, 9, 9, 10, 10, 11, 11, 12, 12, 13, 13, 14, 14, 16,
             ])),
-            580..=669 => Kind::Wild,
-            670..=849 => Kind::Recipe,
-            850..=959 => Kind::Mutated,
+            550..=639 => Kind::Wild,
+            640..=909 => Kind::Recipe,
+            910..=979 => Kind::Mutated,
             _ => Kind::Arbitrary,
         }
     }

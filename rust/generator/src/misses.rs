@@ -1,12 +1,15 @@
 //! Near misses: a text that is right but for one thing, for each number.
 
 use super::forms::{after_return, loop_form, number_form, read_form};
-use super::full::{full_of_halves, full_state};
+use super::full::{full_of_chains, full_of_halves, full_state};
+use super::links::{chain_form, chain_name};
 use super::mutate::{exchange, fields_of, mutate_line, text_from};
 use super::program::{accepted, joined, with_miss};
 use super::readers::missed;
 use super::rng::Rng;
+use super::rounds::missed as no_round;
 use super::routes::passed;
+use super::walks::{missed as no_chain, walked};
 use crate::check;
 use crate::limits;
 use crate::number;
@@ -26,6 +29,8 @@ pub fn miss(rng: &mut Rng, number: u32) -> Vec<u8> {
         number::STATE_FULL => full(rng),
         number::BOUND_PASSED => passed(rng),
         number::NO_PERMISSION | number::NOT_SHOWN if rng.chance(15) => missed(rng, number),
+        number::NO_PERMISSION | number::NOT_SHOWN if rng.chance(15) => no_chain(rng, number),
+        number::NO_PERMISSION | number::NOT_SHOWN if rng.chance(5) => no_round(rng, number),
         number::UNRESOLVED..=number::NOT_SHOWN if rng.chance(70) => with_miss(rng, number),
         _ => searched(rng, number),
     }
@@ -33,12 +38,19 @@ pub fn miss(rng: &mut Rng, number: u32) -> Vec<u8> {
 
 /// Mutates a line of an accepted program until check gives the number.
 fn searched(rng: &mut Rng, number: u32) -> Vec<u8> {
-    let base = fields_of(&accepted(rng));
+    let chains = rng.chance(25);
+    let base = match chains {
+        true => walked(rng),
+        false => accepted(rng),
+    };
+    let base = fields_of(&base);
     let mut text = text_from(&base);
     for _ in 0..40 {
         let mut lines = base.clone();
         match number {
             number::ASSIGNED => assign_wrongly(rng, &mut lines),
+            number::NAME | number::TYPE if chains => chain_name(rng, &mut lines),
+            number::FORM if chains && rng.chance(60) => chain_form(rng, &mut lines),
             number::FORM if rng.chance(20) => after_return(rng, &mut lines),
             number::FORM if rng.chance(20) => loop_form(rng, &mut lines),
             number::FORM if rng.chance(15) => read_form(rng, &mut lines),
@@ -60,7 +72,8 @@ fn searched(rng: &mut Rng, number: u32) -> Vec<u8> {
 /// A line that assigns, whose x is one that it may not be: a line's x is
 /// changed, or a new line comes in.
 fn assign_wrongly(rng: &mut Rng, lines: &mut Fields) {
-    let assigns = |word: &[u8]| matches!(word, b"let" | b"new" | b"call" | b"add" | b"sub");
+    let words = [&b"let"[..], b"new", b"call", b"add", b"sub", b"open"];
+    let assigns = |word: &[u8]| words.contains(&word);
     let places: Vec<usize> = (0..lines.len())
         .filter(|&at| assigns(&lines[at][0]))
         .collect();
@@ -206,7 +219,10 @@ fn unframed(rng: &mut Rng) -> Vec<u8> {
     let first = framing(line).expect("one of the places");
     let path = [&line[first + 1][..], b".", &line[first + 2]].concat();
     let read = [b"eq".to_vec(), path.clone(), path];
+    let chain = line[first] == b"chain";
     match rng.below(6) {
+        // A chain does not serve a read of its path.
+        0 | 5 if chain => drop(line.splice(first + 3..first + 3, read)),
         // The permission goes, the reads of its path stay.
         0 => drop(line.drain(first..first + 3)),
         // A read of the path comes before its permission.
@@ -224,6 +240,7 @@ fn full(rng: &mut Rng) -> Vec<u8> {
     match rng.below(100) {
         0..=49 => return full_state(rng),
         50..=64 => return full_of_halves(rng),
+        65..=84 => return full_of_chains(rng),
         _ => {}
     }
     let count = rng.within(4, 8);

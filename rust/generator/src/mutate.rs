@@ -3,7 +3,7 @@
 use super::rng::Rng;
 
 /// Words, names, numbers and other fields that a line may have.
-const TOKENS: [&str; 65] = [
+const TOKENS: [&str; 68] = [
     "class",
     "field",
     "method",
@@ -17,6 +17,8 @@ const TOKENS: [&str; 65] = [
     "sub",
     "new",
     "call",
+    "open",
+    "shut",
     "return",
     "assert",
     "release",
@@ -28,6 +30,7 @@ const TOKENS: [&str; 65] = [
     "end",
     "acc",
     "read",
+    "chain",
     "eq",
     "ne",
     "int",
@@ -221,14 +224,14 @@ fn small(rng: &mut Rng) -> Vec<u8> {
     let name = |rng: &mut Rng| rng.pick(&["s", "t", "a", "f", "n", "S", "this"]);
     let expr = |rng: &mut Rng| rng.pick(&["s", "t", "a", "s.f", "t.f", "s.n", "t.n", "null", "0"]);
     for _ in 0..rng.below(7) {
-        let line = match rng.below(8) {
+        let line = match rng.below(10) {
             0 => format!("set {} {} {}", name(rng), name(rng), name(rng)),
             1 => format!("let {} {}", name(rng), expr(rng)),
             2 => format!("new {} S", name(rng)),
             3 => format!("assert eq {} {}", expr(rng), expr(rng)),
             4 => format!(
                 "release {} {} {}",
-                rng.pick(&["acc", "read"]),
+                rng.pick(&["acc", "read", "chain"]),
                 name(rng),
                 name(rng)
             ),
@@ -239,6 +242,8 @@ fn small(rng: &mut Rng) -> Vec<u8> {
                 name(rng)
             ),
             6 => format!("if ne {} {}\nelse\njoin", expr(rng), expr(rng)),
+            7 => format!("open {} {} {}", name(rng), name(rng), name(rng)),
+            8 => format!("shut {} {}", name(rng), name(rng)),
             _ => format!("loop ne {} {} read s n\nagain", expr(rng), expr(rng)),
         };
         text.push_str(&line);

@@ -1,10 +1,11 @@
 //! The writer's bodies: statements, and branches and loops among them.
 
-use super::writer::{framed, Style, Writer};
+use super::facts::framed;
+use super::writer::{Style, Writer};
 use crate::checker::{alone, opposite, State};
 use crate::limits;
-use crate::names::{Action, Atom, Branch, Formula, Loop, RESULT};
-use crate::text::Share;
+use crate::names::{Action, Atom, Branch, Compute, Expr, Formula, Loop, Type, FIRST_LOCAL, RESULT};
+use crate::text::{Operator, Share};
 
 /// What the writer had before it began to write an `if` or a `loop`.
 struct Mark {
@@ -60,7 +61,11 @@ impl<'p, 'a> Writer<'p, 'a> {
     /// `if`, its branches and `join`, and the state after them; none if they do
     /// not fit.
     fn branches(&mut self, state: &State<'a>, depth: usize) -> Option<State<'a>> {
-        let condition = self.fact(state)?;
+        let of_chain = self.rng.chance(self.style.chains);
+        let condition = match of_chain {
+            true => self.chain_condition(state)?,
+            false => self.fact(state)?,
+        };
         let branch = Action::If(Branch {
             condition,
             other: 0,
@@ -70,6 +75,9 @@ impl<'p, 'a> Writer<'p, 'a> {
         first.add(&[condition]).ok()?;
         other.add(&[opposite(condition)]).ok()?;
         self.write(&branch);
+        if of_chain {
+            self.open_first(&mut first);
+        }
         let tries = self.rng.within(1, 8);
         let first = self.branch(first, depth + 1, tries);
         self.write(&Action::Else(0));
@@ -86,6 +94,9 @@ impl<'p, 'a> Writer<'p, 'a> {
     /// last.
     fn branch(&mut self, state: State<'a>, depth: usize, tries: usize) -> Option<State<'a>> {
         let state = self.body(state, depth, tries);
+        if self.rng.chance(self.style.wild / 4) && self.return_unasked() {
+            return None;
+        }
         if self.rng.chance(20) {
             if let Some(actions) = self.give_back(&state) {
                 actions.iter().for_each(|action| self.write(action));
@@ -93,6 +104,16 @@ impl<'p, 'a> Writer<'p, 'a> {
             }
         }
         Some(state)
+    }
+
+    /// A `return` of which no rule was asked; none in main.
+    fn return_unasked(&mut self) -> bool {
+        let kind = self.type_of(RESULT);
+        let x = kind.and_then(|kind| self.any_var(kind));
+        if let Some(x) = x {
+            self.write(&Action::Return(x));
+        }
+        x.is_some()
     }
 
     /// A formula that the ends show: what ensures and the loop around need
@@ -184,9 +205,10 @@ impl<'p, 'a> Writer<'p, 'a> {
     fn condition(&mut self, invariant: &[Atom<'a>]) -> Option<Atom<'a>> {
         let known = alone(invariant, None);
         (0..4).find_map(|_| {
-            let condition = match self.rng.chance(20) {
-                true => self.fact(&known),
-                false => self.any_fact(&known),
+            let condition = match self.rng.below(100) {
+                at if at < self.style.chains / 2 => self.chain_condition(&known),
+                80.. => self.fact(&known),
+                _ => self.any_fact(&known),
             };
             condition.filter(|&atom| framed(&[invariant, &[atom]].concat()))
         })
@@ -194,7 +216,7 @@ impl<'p, 'a> Writer<'p, 'a> {
 
     /// Statements after which the end of a body shows the invariant. Most make
     /// the condition false as well, so that the loop ends; if a line is to be
-    /// refused, they may be left out, or a permission let go.
+    /// refused, they may be left out, or a permission or a fact let go.
     fn close(
         &mut self,
         end: &State<'a>,
@@ -210,7 +232,8 @@ impl<'p, 'a> Writer<'p, 'a> {
         let mut held = invariant.iter();
         let held = held.find(|atom| matches!(atom, Atom::Permission(..)));
         let lost = held.map(|&held| vec![Action::Release(vec![held])]);
-        for wrong in [Vec::new()].into_iter().chain(lost) {
+        let forgotten = invariant.iter().find_map(|&atom| self.forget(atom));
+        for wrong in [Vec::new()].into_iter().chain(forgotten).chain(lost) {
             let Ok(end) = self.after(end, &wrong) else {
                 continue;
             };
@@ -219,5 +242,24 @@ impl<'p, 'a> Writer<'p, 'a> {
             }
         }
         Some(closing)
+    }
+
+    /// Statements after which nothing is known of a number that the fact names.
+    fn forget(&self, fact: Atom<'a>) -> Option<Vec<Action<'a>>> {
+        let (Atom::Eq(left, right) | Atom::Ne(left, right)) = fact else {
+            return None;
+        };
+        let mut sides = [left, right].into_iter();
+        let x = sides.find_map(|side| match side {
+            Expr::Var(x @ FIRST_LOCAL..RESULT) if self.type_of(x) == Some(Type::Int) => Some(x),
+            _ => None,
+        })?;
+        let operator = Operator::Add;
+        Some(vec![Action::Compute(Compute {
+            operator,
+            x,
+            y: x,
+            z: x,
+        })])
     }
 }

@@ -1,10 +1,11 @@
 //! Whole programs: the declarations, contracts that can be met, and bodies.
 
 use super::contracts::contract;
+use super::facts::framed;
 use super::render;
 use super::rng::Rng;
 use super::skeleton::{skeleton, Size};
-use super::writer::{framed, Style, Writer};
+use super::writer::{Style, Writer};
 use crate::checker::{alone, State};
 use crate::limits;
 use crate::names::{Action, Atom, Block, Formula, Program};
@@ -35,8 +36,8 @@ fn weakened<'a>(rng: &mut Rng, formula: &[Atom<'a>]) -> Formula<'a> {
 }
 
 /// Gives a method a contract that an empty body, once finished, meets.
-fn give_contract(rng: &mut Rng, program: &mut Program, index: usize, halves: usize) {
-    let contract = contract(rng, program, &program.blocks[index], halves);
+fn give_contract(rng: &mut Rng, program: &mut Program, index: usize, style: &Style) {
+    let contract = contract(rng, program, &program.blocks[index], style);
     let block = &mut program.blocks[index];
     (block.requires, block.ensures) = contract;
     while !finishes(rng, program, index) {
@@ -54,6 +55,7 @@ const PLAIN: Style = Style {
     recursive: false,
     loops: false,
     halves: 0,
+    chains: 0,
     wild: 0,
     miss: None,
 };
@@ -142,7 +144,7 @@ pub fn lines(rng: &mut Rng, style: Style) -> Vec<String> {
         let text = joined(&declarations);
         let mut program = read(&text).expect("declarations that the reader takes");
         for index in 0..program.blocks.len() - 1 {
-            give_contract(rng, &mut program, index, style.halves);
+            give_contract(rng, &mut program, index, &style);
         }
         let mut style = style;
         let bodies: Option<Vec<_>> = (0..program.blocks.len())
@@ -157,7 +159,9 @@ pub fn lines(rng: &mut Rng, style: Style) -> Vec<String> {
 }
 
 /// Of a hundred permissions so many by halves: programs have none, some or many.
-const HALVES: [usize; 3] = [0, 30, 60];
+const HALVES: [usize; 3] = [0, 50, 80];
+/// Of a hundred links so many as chains.
+const CHAINS: [usize; 4] = [0, 0, 40, 70];
 
 /// A program that check accepts.
 pub fn accepted(rng: &mut Rng) -> Vec<u8> {
@@ -165,6 +169,7 @@ pub fn accepted(rng: &mut Rng) -> Vec<u8> {
         recursive: rng.chance(35),
         loops: rng.chance(60),
         halves: rng.pick(&HALVES),
+        chains: rng.pick(&CHAINS),
         ..PLAIN
     };
     joined(&lines(rng, style))
@@ -176,6 +181,7 @@ pub fn wild(rng: &mut Rng) -> Vec<u8> {
         recursive: rng.chance(35),
         loops: rng.chance(60),
         halves: rng.pick(&HALVES),
+        chains: rng.pick(&CHAINS),
         wild: rng.pick(&[5, 20, 60]),
         miss: None,
     };
@@ -188,6 +194,7 @@ pub fn with_miss(rng: &mut Rng, number: u32) -> Vec<u8> {
         recursive: rng.chance(20),
         loops: rng.chance(60),
         halves: rng.pick(&HALVES),
+        chains: rng.pick(&CHAINS),
         wild: 0,
         miss: Some(number),
     };

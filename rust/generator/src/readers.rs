@@ -98,7 +98,7 @@ fn line(rng: &mut Rng) -> String {
         12 => format!("assert {held}"),
         13 => format!("assert read {x} n {held}"),
         14 => format!("assert read {x} n read {y} n read {z} n"),
-        15 => format!("assert read {x} n acc {y} n"),
+        15 => format!("assert {} {x} n acc {y} n", rng.pick(&["read", "acc"])),
         16 => format!("set {x} n {a}"),
         17 => format!("let {a} {x}.n"),
         18 => format!("assert eq {x}.n {a}"),
@@ -112,7 +112,7 @@ fn line(rng: &mut Rng) -> String {
 }
 
 /// Lines that lack a half: 12.
-const TOO_LITTLE: [&str; 11] = [
+const TOO_LITTLE: [&str; 12] = [
     "release read s n\nset s n a",
     "release read s n\nassert acc s n",
     "call a s keep b\nset s n b",
@@ -122,6 +122,7 @@ const TOO_LITTLE: [&str; 11] = [
     "call a s copy s",
     "assert read s n read s n read s n",
     "assert read s n acc s n",
+    "assert acc s n acc s n",
     "release read s n\nassert read s n read s n",
     "call s t lend a\nrelease read s n read s n",
 ];

@@ -1,6 +1,6 @@
 //! Programs with a plan: full heaps, full frames, runs of many steps, paths that
-//! are dropped; those of full states, of loops, of routes of calls and of halves
-//! stand by themselves.
+//! are dropped; those of full states, of loops, of routes of calls, of halves and of
+//! chains stand by themselves.
 
 use super::full::full_state;
 use super::program::joined;
@@ -8,6 +8,7 @@ use super::readers::readers;
 use super::rng::Rng;
 use super::rounds::rounds;
 use super::routes::routes;
+use super::walks::walks;
 use crate::check;
 
 pub(super) fn push(lines: &mut Vec<String>, source: &str) {
@@ -16,16 +17,17 @@ pub(super) fn push(lines: &mut Vec<String>, source: &str) {
 
 /// A program by one of the plans.
 pub fn recipe(rng: &mut Rng) -> Vec<u8> {
-    match rng.below(15) {
+    match rng.below(27) {
         0 => full_state(rng),
         1 => doubling(rng),
         2 => recursion(rng),
         3 => full_heap(rng),
         4 => counting(rng),
-        5 | 6 => droppings(rng),
-        7 => list_walk(rng),
-        8..=10 => rounds(rng),
-        11 | 12 => readers(rng),
+        5..=8 => droppings(rng),
+        9 => list_walk(rng),
+        10..=13 => rounds(rng),
+        14..=17 => readers(rng),
+        18..=23 => walks(rng),
         _ => routes(rng),
     }
 }

@@ -85,6 +85,11 @@ pub fn action(program: &Program, block: &Block, action: &Action) -> String {
             let (x, y, z) = (var(call.x), var(call.y), var(call.z));
             format!("call {x} {y} {} {z}", written(method.name))
         }
+        Action::Open(open) => {
+            let (y, x) = (var(open.y), var(open.path.var));
+            format!("open {y} {x} {}", written(open.path.field))
+        }
+        Action::Shut(p) => format!("shut {} {}", var(p.var), written(p.field)),
         Action::Return(x) => format!("return {}", var(*x)),
         Action::Assert(atoms) => formula(block, "assert", atoms),
         Action::Release(atoms) => formula(block, "release", atoms),

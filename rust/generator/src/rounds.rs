@@ -26,6 +26,21 @@ pub fn rounds(rng: &mut Rng) -> Vec<u8> {
     text
 }
 
+/// A program with loops; most are refused with the number at an `again`.
+pub fn missed(rng: &mut Rng, number: u32) -> Vec<u8> {
+    let mut text = plan(rng);
+    for _ in 0..20 {
+        let (found, line) = check(&text);
+        let before = (line as usize).saturating_sub(1);
+        let refused = text.split(|&byte| byte == b'\n').nth(before);
+        if found == number && refused == Some(b"again") {
+            break;
+        }
+        text = plan(rng);
+    }
+    text
+}
+
 fn plan(rng: &mut Rng) -> Vec<u8> {
     let mut lines = Vec::new();
     push(&mut lines, DECLARED);

@@ -83,7 +83,11 @@ fn random(rng: &mut Rng) -> Plan {
         let first = rng.below(count);
         let last = rng.within(first, count - 1).min(first + 2);
         let next = |at: usize| if at == last { first } else { at + 1 };
-        (first..=last).for_each(|at| methods[at].push(Planned::Call(next(at))));
+        for (at, lines) in (first..).zip(&mut methods[first..=last]) {
+            // No other call makes the ring shorter.
+            lines.retain(|line| !matches!(line, Planned::Call(to) if *to >= first));
+            lines.push(Planned::Call(next(at)));
+        }
     }
     let mut main: Vec<Planned> = (0..rng.below(5))
         .map(|_| Planned::Call(rng.below(count)))

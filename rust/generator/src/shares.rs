@@ -7,7 +7,7 @@ use crate::checker::{Permission, State};
 use crate::limits;
 use crate::names::{Action, Atom, Expr, Formula, Path};
 use crate::number;
-use crate::text::Share::{self, Acc, Read};
+use crate::text::Share::{self, Acc, Chain, Read};
 
 /// The permissions to a path that are asked for together.
 pub type Asked = &'static [Share];
@@ -24,6 +24,7 @@ pub fn asked(rng: &mut Rng, halves: usize) -> Asked {
 pub fn given_back(rng: &mut Rng, halves: usize, asked_for: Asked) -> Asked {
     match asked_for {
         [Read] => &[Read],
+        [Chain] => &[Chain],
         _ => asked(rng, halves),
     }
 }
@@ -47,8 +48,13 @@ impl<'p, 'a> Writer<'p, 'a> {
         asked(self.rng, self.style.halves)[0]
     }
 
-    /// A permission to a path that the state lists; now and then to any path.
+    /// A permission to a path that the state lists, or a chain; now and then any.
     pub(super) fn known_permission(&mut self, state: &State<'a>) -> Option<Atom<'a>> {
+        if self.rng.chance(self.style.chains) {
+            if let Some(chain) = self.chain_atom(state) {
+                return Some(chain);
+            }
+        }
         let (path, _) = self.known_path(state)?;
         Some(Atom::Permission(self.share(), path))
     }
@@ -63,10 +69,14 @@ impl<'p, 'a> Writer<'p, 'a> {
     pub(super) fn asked_of(&mut self, listed: &Permission<'a>) -> Formula<'a> {
         let shares = match listed.share {
             Read => &[Read],
+            Chain => &[Chain],
             Acc => asked(self.rng, self.style.halves),
         };
         let path = self.path(listed.var, listed.field);
-        let atoms = path.map(|(path, _)| {
+        let path = path.map(|(path, _)| path);
+        // A chain of what is null may have gone over to a variable of another class.
+        let path = path.filter(|&path| listed.share.lists_path() || self.is_link(path));
+        let atoms = path.map(|path| {
             let atom = |&share| Atom::Permission(share, path);
             shares.iter().map(atom).collect()
         });
@@ -86,9 +96,12 @@ impl<'p, 'a> Writer<'p, 'a> {
             None => self.known_path(state)?,
         };
         let wanted: &[Share] = match halves.is_empty() {
-            true => self
-                .rng
-                .pick(&[&[Acc, Read][..], &[Read, Acc], &[Read, Read, Read]]),
+            true => self.rng.pick(&[
+                &[Acc, Read][..],
+                &[Read, Acc],
+                &[Acc, Acc],
+                &[Read, Read, Read],
+            ]),
             false => self.rng.pick(&[&[Acc][..], &[Acc], &[Read, Read]]),
         };
         let atom = |&share| Atom::Permission(share, path);

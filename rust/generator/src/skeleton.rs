@@ -16,7 +16,7 @@ const CLASS_NAMES: [&str; 10] = [
     "main",
     "Abcdefghijkl",
 ];
-const FIELD_NAMES: [&str; 13] = [
+const FIELD_NAMES: [&str; 14] = [
     "f",
     "g",
     "n",
@@ -25,13 +25,14 @@ const FIELD_NAMES: [&str; 13] = [
     "val",
     "acc",
     "read",
+    "chain",
     "x",
     "S",
     "h1",
     "eq",
     "abcdefghijkl",
 ];
-const METHOD_NAMES: [&str; 10] = [
+const METHOD_NAMES: [&str; 11] = [
     "m",
     "put",
     "get",
@@ -40,10 +41,11 @@ const METHOD_NAMES: [&str; 10] = [
     "make",
     "new",
     "n",
+    "shut",
     "end",
     "abcdefghijkl",
 ];
-const VAR_NAMES: [&str; 20] = [
+const VAR_NAMES: [&str; 21] = [
     "a",
     "b",
     "c",
@@ -59,6 +61,7 @@ const VAR_NAMES: [&str; 20] = [
     "p1",
     "q9",
     "let",
+    "open",
     "eq",
     "S",
     "abcdefghijkl",
@@ -101,6 +104,14 @@ fn kind(rng: &mut Rng, classes: &[&str]) -> String {
     }
 }
 
+/// The type of a field; some are of the class itself, so that chains go by them.
+fn field_kind(rng: &mut Rng, class: &str, classes: &[&str]) -> String {
+    match rng.chance(20) {
+        true => class.to_string(),
+        false => kind(rng, classes),
+    }
+}
+
 /// `var` lines: one local of each type if there is room, then others.
 fn locals(rng: &mut Rng, classes: &[&str], size: Size, param: Option<&str>, out: &mut Vec<String>) {
     let least = classes.len() + 1;
@@ -127,7 +138,8 @@ pub fn skeleton(rng: &mut Rng, size: Size) -> Vec<String> {
         let least = usize::from(rng.chance(85));
         let count = rng.within(least, size.fields);
         for field in some(rng, &FIELD_NAMES, count) {
-            out.push(format!("field\t{}\t{field}", kind(rng, &classes)));
+            let kind = field_kind(rng, class, &classes);
+            out.push(format!("field\t{kind}\t{field}"));
         }
         let count = rng.within(0, size.methods);
         for method in some(rng, &METHOD_NAMES, count) {

@@ -3,7 +3,7 @@
 
 use super::render;
 use super::rng::Rng;
-use crate::checker::{instance, simple, State, Term};
+use crate::checker::{instance, simple, State};
 use crate::names::{
     Action, Atom, Block, Call, Compute, Expr, Formula, Path, Program, Type, Var, FIRST_LOCAL,
     RESULT, VARS,
@@ -20,6 +20,8 @@ pub struct Style {
     pub loops: bool,
     /// Of a hundred permissions that are asked for, so many by halves.
     pub halves: usize,
+    /// Of a hundred links that are asked for, so many as chains.
+    pub chains: usize,
     /// Of a hundred lines, so many are kept whatever the checker says.
     pub wild: usize,
     /// One line for which the checker gives this number.
@@ -40,9 +42,6 @@ pub struct Writer<'p, 'a> {
     pub invariants: Vec<Formula<'a>>,
 }
 
-/// Small numbers, so that they meet, and the largest ones.
-const NUMBERS: [i32; 8] = [0, 0, 1, 2, 7, -1, i32::MAX, i32::MIN];
-
 impl<'p, 'a> Writer<'p, 'a> {
     pub(super) fn block(&self) -> &'p Block<'a> {
         &self.program.blocks[self.index]
@@ -53,7 +52,7 @@ impl<'p, 'a> Writer<'p, 'a> {
     }
 
     /// The block's variables that a test holds of.
-    fn vars(&self, test: impl Fn(Var, Type<'a>) -> bool) -> Vec<Var> {
+    pub(super) fn vars(&self, test: impl Fn(Var, Type<'a>) -> bool) -> Vec<Var> {
         (0..VARS)
             .filter(|&var| self.type_of(var).is_some_and(|kind| test(var, kind)))
             .collect()
@@ -84,127 +83,6 @@ impl<'p, 'a> Writer<'p, 'a> {
         let fields = &self.program.classes[self.class_of(var)?].fields;
         let slot = fields.iter().position(|other| other.name == field)?;
         Some((Path { var, field, slot }, fields[slot].kind))
-    }
-
-    /// A path that the state lists, sometimes by another name of its object;
-    /// now and then any path.
-    pub(super) fn known_path(&mut self, state: &State<'a>) -> Option<(Path<'a>, Type<'a>)> {
-        let unknown = if self.style.miss.is_some() { 25 } else { 4 };
-        let listed = self.rng.choose(&state.permissions);
-        let Some(listed) = listed.filter(|_| !self.rng.chance(unknown)) else {
-            let vars = self.vars(|_, kind| kind != Type::Int);
-            let var = self.rng.choose(&vars)?;
-            let fields = &self.program.classes[self.class_of(var)?].fields;
-            let field = self.rng.choose(fields)?;
-            return self.path(var, field.name);
-        };
-        let same: Vec<Var> = state
-            .equals(Term::Var(listed.var))
-            .iter()
-            .filter_map(|term| match term {
-                Term::Var(var) => Some(*var),
-                _ => None,
-            })
-            .collect();
-        let var = self.rng.pick(&same);
-        self.path(var, listed.field)
-    }
-
-    /// An expression of a type.
-    fn expr(&mut self, state: &State<'a>, kind: Type<'a>) -> Option<Expr<'a>> {
-        match (self.rng.below(4), kind) {
-            (0, Type::Int) => Some(Expr::Number(self.rng.pick(&NUMBERS))),
-            (0, Type::Class(_)) => Some(Expr::Null),
-            (1, _) => self.any_var(kind).map(Expr::Var),
-            _ => {
-                let (path, other) = self.known_path(state)?;
-                (kind == other).then_some(Expr::Path(path))
-            }
-        }
-    }
-
-    fn any_kind(&mut self) -> Option<Type<'a>> {
-        let vars = self.vars(|_, _| true);
-        let var = self.rng.choose(&vars)?;
-        self.type_of(var)
-    }
-
-    pub(super) fn term_expr(&self, term: Term<'a>) -> Option<Expr<'a>> {
-        Some(match term {
-            Term::Number(value) => Expr::Number(value),
-            Term::Null => Expr::Null,
-            Term::Var(var) => Expr::Var(var),
-            Term::Path(var, field) => Expr::Path(self.path(var, field)?.0),
-        })
-    }
-
-    /// An `eq` or `ne`: a fact of the state, two of its equal terms, or any.
-    pub(super) fn fact(&mut self, state: &State<'a>) -> Option<Atom<'a>> {
-        if self.rng.chance(60) {
-            let fact = self.rng.choose(&state.facts)?;
-            let class = state.equals(fact.left);
-            let left = self.rng.pick(&class);
-            let left = self.term_expr(left)?;
-            let right = self.term_expr(fact.right)?;
-            return self.compare(fact.equal, left, right);
-        }
-        self.any_fact(state)
-    }
-
-    /// An `eq` or `ne` of two sides that fit.
-    pub(super) fn any_fact(&mut self, state: &State<'a>) -> Option<Atom<'a>> {
-        let kind = self.any_kind()?;
-        let left = self.expr(state, kind)?;
-        let right = self.expr(state, kind)?;
-        let equal = self.rng.chance(50);
-        self.compare(equal, left, right)
-    }
-
-    /// Some atoms, most of them known to the state.
-    fn formula(&mut self, state: &State<'a>, most: usize, acc: usize) -> Formula<'a> {
-        let tries = self.rng.within(0, 2 * most);
-        let mut formula = Vec::new();
-        for _ in 0..tries {
-            if formula.len() == most {
-                break;
-            }
-            let atom = match self.rng.chance(acc) {
-                true => self.known_permission(state),
-                false => self.fact(state),
-            };
-            let Some(atom) = atom else { continue };
-            formula.push(atom);
-            if state.show(&formula).is_err() && !self.rng.chance(3) {
-                formula.pop();
-            }
-        }
-        formula
-    }
-
-    /// An expression's type; null has none.
-    fn kind(&self, expr: Expr<'a>) -> Option<Type<'a>> {
-        match expr {
-            Expr::Number(_) => Some(Type::Int),
-            Expr::Null => None,
-            Expr::Var(var) => self.type_of(var),
-            Expr::Path(path) => self.path(path.var, path.field).map(|(_, kind)| kind),
-        }
-    }
-
-    /// The two sides are int, or null or of one class.
-    fn fit(&self, left: Expr<'a>, right: Expr<'a>) -> bool {
-        match (self.kind(left), self.kind(right)) {
-            (Some(left), Some(right)) => left == right,
-            (left, right) => left != Some(Type::Int) && right != Some(Type::Int),
-        }
-    }
-
-    /// An `eq` or `ne` of two sides that fit.
-    pub(super) fn compare(&self, equal: bool, left: Expr<'a>, right: Expr<'a>) -> Option<Atom<'a>> {
-        self.fit(left, right).then_some(match equal {
-            true => Atom::Eq(left, right),
-            false => Atom::Ne(left, right),
-        })
     }
 
     /// The state after the statements, or the number that the first refused
@@ -269,6 +147,11 @@ impl<'p, 'a> Writer<'p, 'a> {
     /// One or more statements that make sense together.
     fn propose(&mut self, state: &State<'a>) -> Option<Vec<Action<'a>>> {
         let one = |action| Some(vec![action]);
+        if self.rng.chance(self.style.chains / 2) {
+            if let Some(lines) = self.chain_lines(state) {
+                return Some(lines);
+            }
+        }
         match self.rng.below(100) {
             0..=11 => {
                 let vars = self
@@ -300,7 +183,7 @@ impl<'p, 'a> Writer<'p, 'a> {
     }
 
     /// All paths of a variable.
-    fn paths(&self, var: Var) -> Vec<(Path<'a>, Type<'a>)> {
+    pub(super) fn paths(&self, var: Var) -> Vec<(Path<'a>, Type<'a>)> {
         let Some(class) = self.class_of(var) else {
             return Vec::new();
         };
@@ -310,21 +193,11 @@ impl<'p, 'a> Writer<'p, 'a> {
             .collect()
     }
 
-    /// A path that is not listed, of a variable known not to be null if there
-    /// is one, else any.
-    pub(super) fn lost_path(&mut self, state: &State<'a>) -> Option<(Path<'a>, Type<'a>)> {
-        let vars = self.vars(|_, kind| kind != Type::Int);
-        let all: Vec<_> = vars.iter().flat_map(|&var| self.paths(var)).collect();
-        let mut lost = all.clone();
-        lost.retain(|&(path, _)| {
-            let object = Atom::Ne(Expr::Var(path.var), Expr::Null);
-            state.show(&[object]).is_ok() && state.resolve(Expr::Path(path)).is_err()
-        });
-        self.rng.choose(&lost).or_else(|| self.rng.choose(&all))
-    }
-
     /// A statement that may well be refused with the number that is wanted.
     fn wrong(&mut self, state: &State<'a>) -> Option<Vec<Action<'a>>> {
+        if self.rng.chance(self.style.chains) {
+            return self.wrong_by_chains(state).map(|action| vec![action]);
+        }
         if self.rng.chance(self.style.halves) {
             return self.wrong_by_halves(state).map(|action| vec![action]);
         }
@@ -367,10 +240,15 @@ impl<'p, 'a> Writer<'p, 'a> {
             true => self.wrong(state),
             false => self.propose(state),
         };
-        let Some(actions) = proposed else {
-            return;
-        };
-        match self.after(state, &actions) {
+        if let Some(actions) = proposed {
+            self.offer(state, &actions);
+        }
+    }
+
+    /// Writes the statements if the checker takes them, and if the end can still be
+    /// reached.
+    pub(super) fn offer(&mut self, state: &mut State<'a>, actions: &[Action<'a>]) {
+        match self.after(state, actions) {
             Ok(after) if self.reaches(&after) => {
                 actions.iter().for_each(|action| self.write(action));
                 *state = after;
@@ -393,22 +271,4 @@ impl<'p, 'a> Writer<'p, 'a> {
         }
         number >= number::UNRESOLVED && self.rng.chance(self.style.wild)
     }
-}
-
-/// Number 10 for a resolved formula.
-pub fn framed(formula: &[Atom]) -> bool {
-    formula.iter().enumerate().all(|(place, atom)| {
-        let holds = |atom: &Atom, path: Path| match *atom {
-            Atom::Permission(_, other) => other == path,
-            _ => false,
-        };
-        let held = |side: &Expr| match *side {
-            Expr::Path(path) => formula[..place].iter().any(|atom| holds(atom, path)),
-            _ => true,
-        };
-        match atom {
-            Atom::Permission(..) => true,
-            Atom::Eq(left, right) | Atom::Ne(left, right) => held(left) && held(right),
-        }
-    })
 }

@@ -77,8 +77,8 @@ fn accepted_programs_are_accepted() {
     println!("texts by nesting: {depths:?}");
     assert!(depths.iter().all(|&texts| texts > 50));
     let kinds = [
-        "set", "let", "add", "sub", "new", "call", "return", "assert", "release", "if", "else",
-        "join", "loop", "again",
+        "set", "let", "add", "sub", "new", "call", "open", "shut", "return", "assert", "release",
+        "if", "else", "join", "loop", "again",
     ];
     for kind in kinds {
         assert!(words[kind] > 500, "{kind} is rare");

@@ -128,7 +128,8 @@ pub const EXPLANATIONS: &[Explanation] = &[
         meaning: "Both sides of `eq`, `ne`, `let` and `set`, an argument and its parameter, a result \
                   and what takes it are both int, or both null or of one class. All three variables of \
                   `add` and `sub` are int. Only a variable of a class has fields and methods. The \
-                  variable of `new` is of that class.",
+                  variable of `new` is of that class. The field of a `chain`, an `open` or a `shut` \
+                  has the class of its x as its type, and the y of `open y x f` is of that class.",
         mend: "give both sides one type: change the declaration, or name another variable",
         example: example!("refused-07"),
     },
@@ -144,8 +145,9 @@ pub const EXPLANATIONS: &[Explanation] = &[
     Explanation {
         number: 9,
         title: "a variable that may not be assigned here",
-        meaning: "`let`, `new`, `call`, `add` and `sub` may not assign `this`, the parameter or \
-                  `result`, and the x of `call x y m z` may be neither y nor z.",
+        meaning: "`let`, `new`, `call`, `add`, `sub` and `open` may not assign `this`, the parameter \
+                  or `result`; the x of `call x y m z` may be neither y nor z, and the y of \
+                  `open y x f` not x.",
         mend: "assign a local variable instead; `return` is what sets `result`",
         example: example!("refused-09"),
     },
@@ -155,9 +157,9 @@ pub const EXPLANATIONS: &[Explanation] = &[
         meaning: "In `requires`, `ensures`, `join` and the invariant of a `loop` a path `x.f` may be \
                   read only after `acc x f` or `read x f`, by these two names, in the same line. The \
                   condition of a `loop` reads only paths whose `acc` or `read` is in the invariant \
-                  after it.",
+                  after it. `chain x f` does not serve for `x.f`.",
         mend: "write `acc x f` or `read x f` before the atom that reads `x.f`; for a loop's \
-               condition, into its invariant",
+               condition, into its invariant; a link of a chain is read after `open`, in the body",
         example: example!("refused-10"),
     },
     Explanation {
@@ -166,19 +168,23 @@ pub const EXPLANATIONS: &[Explanation] = &[
         meaning: "The line reads `x.f`, but no permission to it is known here, neither whole nor \
                   half: not for x, nor for anything known to be equal to x.",
         mend: "keep or ask for the permission before this line: in `requires`, in the `ensures` of \
-               the method called before, in the `join` or `loop` before, or by not releasing it",
+               the method called before, in the `join` or `loop` before, or by not releasing it; a \
+               path that is in a chain is there after `open`",
         example: example!("refused-11"),
     },
     Explanation {
         number: 12,
         title: "a permission that is not shown",
-        meaning: "The line needs `acc x f` or `read x f`, for itself or for a formula that it must \
-                  show, and no permission that is known here and not yet used by the same formula \
-                  gives it. `set` needs `acc`, and a `read`, which is a half, never gives an `acc`.",
+        meaning: "The line needs `acc x f`, `read x f` or `chain x f`, for itself or for a formula \
+                  that it must show, and no permission that is known here and not yet used by the \
+                  same formula gives it. `set` needs `acc`, and a `read`, which is a half, never gives \
+                  an `acc`. `open` takes a chain. `shut x f` takes the chain of the card that `x.f` \
+                  leads to, and `acc x f`.",
         mend: "ask for it in `requires`, give it back in `ensures`, keep it in `join` or in the \
                invariant of a `loop`, which is shown before the first round and at each `again`; a \
                formula with `acc x f` twice needs two objects; a half that a method was handed by \
-               `read` comes back by a `read` in its `ensures`",
+               `read` comes back by a `read` in its `ensures`; a chain that was opened is one again \
+               after `shut`, the last card's first, and a ring of cards never is",
         example: example!("refused-12"),
     },
     Explanation {
@@ -188,7 +194,7 @@ pub const EXPLANATIONS: &[Explanation] = &[
                   only what its line says is known: of a sum or difference nothing, of the fields that \
                   a call is handed what `ensures` says. After `join` only its formula is known, in \
                   a loop only the invariant and the condition, after it the invariant and the \
-                  condition's opposite.",
+                  condition's opposite. `open y x f` wants x not to be null.",
         mend: "state the fact where it is lost: in `ensures`, in `join`, in `loop`, or by `if`; what \
                a loop's body makes false can not be in its invariant",
         example: example!("refused-13"),
@@ -196,8 +202,8 @@ pub const EXPLANATIONS: &[Explanation] = &[
     Explanation {
         number: 14,
         title: "the checker's state is full",
-        meaning: "At most 64 permissions and 64 facts can be known at one line. The line would add \
-                  one more.",
+        meaning: "At most 64 permissions and 64 facts can be known at one line; a chain is one \
+                  permission. The line would add one more.",
         mend: "move a part into a method, whose contract keeps only what is needed, or let a `join` \
                or `loop` do so; `release` makes room for permissions",
         example: example!("refused-14"),
@@ -251,25 +257,26 @@ pub const EXPLANATIONS: &[Explanation] = &[
         number: 24,
         title: "a permission is missing",
         meaning: "The running block does not hold the field that the line reads, writes or claims, \
-                  or only a half of one that it writes or claims whole. An accepted text never stops \
-                  so.",
+                  or only a half of one that it writes or claims whole, or a chain goes over a card \
+                  whose link it does not hold whole. An accepted text never stops so.",
         mend: "check the text: the refused line says which permission is not handed over",
         example: example!("stopped-24"),
     },
     Explanation {
         number: 25,
         title: "null was followed",
-        meaning: "The line reads or claims a field of null, or calls a method of null. An accepted \
-                  text never stops so.",
+        meaning: "The line reads or claims a field of null, opens or shuts a chain there, or calls a \
+                  method of null. An accepted text never stops so.",
         mend: "check the text; test by `if ne x null` before following x",
         example: example!("stopped-25"),
     },
     Explanation {
         number: 26,
-        title: "an `eq` or `ne` is false",
+        title: "an `eq` or `ne` is false, or a chain is a ring",
         meaning: "A formula of the line is false: an `assert` or `release`, a `join`, the invariant \
-                  of a `loop`, the `requires` of a call or the `ensures` of a method. An accepted \
-                  text never stops so.",
+                  of a `loop`, the `requires` of a call or the `ensures` of a method; or the chain that \
+                  the line goes over leads back to one of its cards. An accepted text never stops \
+                  so.",
         mend: "check the text, and compare the values that the run left with the formula",
         example: example!("stopped-26"),
     },

@@ -83,7 +83,7 @@ numbered! {
         PermissionMissing = 24,
         /// 25: null was followed.
         NullFollowed = 25,
-        /// 26: an `eq` or `ne` was false.
+        /// 26: an `eq` or `ne` was false, or a chain was a ring.
         FormulaFalse = 26,
         /// 27: a sum or difference beyond 32 bits signed.
         Overflow = 27,

@@ -26,6 +26,13 @@ impl<'a> State<'a> {
         }
     }
 
+    /// `return x`. W2: "The checker shows ensures at that line", `result` assigned.
+    fn give_back<W: Watch<'a>>(&mut self, x: Var, block: &Block<'a>, at: &mut At<W>) -> Rule<()> {
+        self.assign(RESULT, Expr::Var(x), at)?;
+        at.show(self, Purpose::Ensures, &block.ensures);
+        self.show(&block.ensures)
+    }
+
     /// `new`: "remove x; add its permissions, x ≠ null, and each field = null,
     /// or 0 for int"; both halves of each.
     fn create(&mut self, x: Var, class: &Class<'a>) -> Rule<()> {
@@ -55,7 +62,8 @@ impl<'a> State<'a> {
         let place = self
             .first_listed(Share::Acc, path)
             .ok_or(number::NO_PERMISSION)?;
-        let path = self.permissions[place].path();
+        let Permission { var, field, .. } = self.permissions[place];
+        let path = Term::Path(var, field);
         self.drop_terms(&[path]);
         self.add_fact(true, path, Term::Var(y))
     }
@@ -146,12 +154,7 @@ fn watched<'a, W: Watch<'a>>(
 ) -> Rule<()> {
     match action {
         Action::Let(x, expr) => state.assign(*x, *expr, at),
-        // W2: "The checker shows ensures at that line", `result` assigned.
-        Action::Return(x) => {
-            state.assign(RESULT, Expr::Var(*x), at)?;
-            at.show(state, Purpose::Ensures, &block.ensures);
-            state.show(&block.ensures)
-        }
+        Action::Return(x) => state.give_back(*x, block, at),
         // W1: "The checker removes x and keeps no fact of the new value."
         Action::Compute(compute) => {
             state.remove(compute.x, Term::Null);
@@ -160,6 +163,8 @@ fn watched<'a, W: Watch<'a>>(
         Action::New(x, class) => state.create(*x, &program.classes[*class]),
         Action::Set(path, y) => state.set(*path, *y, at),
         Action::Call(call) => state.call(*call, &program.blocks[call.method], at),
+        Action::Open(open) => state.open(*open, at),
+        Action::Shut(path) => state.shut(*path, at),
         Action::Assert(formula) => {
             at.show(state, Purpose::Claim, formula);
             state.show(formula)

@@ -1,6 +1,6 @@
 //! Why a line has number 6, 7 or 9: an observation point of the names.
 
-use crate::names::Kind;
+use crate::names::{Kind, Type};
 use crate::number::{self, Refusal};
 use crate::text::{self, reserved, Name};
 
@@ -34,6 +34,8 @@ pub enum Sides {
     Return,
     /// A variable and the class of its new object.
     New,
+    /// The variable of an `open` and the field whose value it takes.
+    Open,
 }
 
 /// Why a line has number 6, 7 or 9.
@@ -53,9 +55,12 @@ pub enum Fault<'a> {
     NoObject(Name<'a>),
     /// An object variable in an `add` or `sub`.
     NoInt(Name<'a>),
+    /// The field of a chain, of an `open` or of a `shut`, whose type is not the
+    /// class of the variable before it: x, f and the field's type.
+    NoLink(Name<'a>, Name<'a>, Type<'a>),
     /// `this`, w or `result` assigned.
     Assigned(Name<'a>),
-    /// The x of a call is also its y or z.
+    /// The x of a call is also its y or z, or the y of an `open` its x.
     Same(Name<'a>),
 }
 

@@ -20,19 +20,36 @@ pub(crate) struct Reader<'m> {
 }
 
 impl Reader<'_> {
-    /// The location of `x.f`: null followed is 25. If fewer halves of it are held
-    /// than the share has, beside those that are taken already, it is 24.
+    /// The location of `x.f`: null followed is 25.
+    pub fn place<'a>(&self, path: Path<'a>) -> Outcome<'a, Location> {
+        location(self.objects, self.values, path)
+            .ok_or_else(|| Halt::at(number::NULL_FOLLOWED, path))
+    }
+
+    /// The location of `x.f`, of which the share is held beside what is taken.
     pub fn location<'a>(
         &self,
         path: Path<'a>,
         share: Share,
         taken: &Locations,
     ) -> Outcome<'a, Location> {
-        let location = location(self.objects, self.values, path)
-            .ok_or_else(|| Halt::at(number::NULL_FOLLOWED, path))?;
+        let location = self.place(path)?;
+        self.needs(location, share, path, taken)?;
+        Ok(location)
+    }
+
+    /// If fewer halves of the location are held than the share has, beside those
+    /// that are taken already, it is 24.
+    pub fn needs<'a>(
+        &self,
+        location: Location,
+        share: Share,
+        path: Path<'a>,
+        taken: &Locations,
+    ) -> Outcome<'a, ()> {
         let (held, taken) = (self.held.halves(location), taken.halves(location));
         if held >= taken + share.halves() {
-            return Ok(location);
+            return Ok(());
         }
         Err(Halt {
             missing: Some(Missing {
@@ -79,6 +96,10 @@ impl Reader<'_> {
 
     fn atom<'a>(&self, atom: Atom<'a>, taken: &mut Locations) -> Outcome<'a, ()> {
         let holds = match atom {
+            Atom::Permission(Share::Chain, path) => {
+                taken.add_all(&self.chain(path, taken)?);
+                true
+            }
             Atom::Permission(share, path) => {
                 let location = self.location(path, share, taken)?;
                 taken.add(location, share.halves());

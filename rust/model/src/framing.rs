@@ -1,8 +1,8 @@
 //! Number 10: "requires, ensures or join reads `x.f` with no `acc x f` before
 //! it in the line", and W5: "The invariant, and the condition after it, read
 //! only paths that the invariant holds; number 10 covers this line." W8: "For
-//! number 10, `read x f` serves as `acc x f` does." It goes by the two names as
-//! written.
+//! number 10, `read x f` serves as `acc x f` does." A chain (W9) is no listed path
+//! and serves none. It goes by the two names as written.
 
 use crate::number::{self, Refusal};
 use crate::text::{Atom, Expr, Line, Name};
@@ -13,7 +13,7 @@ pub type Unframed<'a> = (usize, Name<'a>, Name<'a>);
 /// The first path that the atom at a place reads and none of the others holds.
 fn bare<'a>(place: usize, atom: Atom<'a>, held: &[Atom<'a>]) -> Option<Unframed<'a>> {
     let holds = |atom: &Atom, x: Name, field: Name| match *atom {
-        Atom::Permission(_, y, other) => (y, other) == (x, field),
+        Atom::Permission(share, y, other) => share.lists_path() && (y, other) == (x, field),
         Atom::Eq(..) | Atom::Ne(..) => false,
     };
     let bare = |side: Expr<'a>| match side {

@@ -7,6 +7,7 @@
 
 pub mod bounds;
 pub mod call;
+mod chains;
 pub mod checker;
 pub mod faults;
 pub mod form;
@@ -21,6 +22,7 @@ pub mod print;
 pub mod program;
 pub mod reader;
 pub mod scope;
+mod shapes;
 pub mod share;
 pub mod showing;
 pub mod state;

@@ -3,8 +3,8 @@
 use crate::formula::{Outcome, Reader};
 use crate::limits;
 use crate::names::{
-    Action, Atom, Block, Call, Compute, Path, Program, Statement, Var, FIRST_LOCAL, PARAM, RESULT,
-    THIS, VARS,
+    Action, Atom, Block, Call, Compute, Loop, Path, Program, Statement, Var, FIRST_LOCAL, PARAM,
+    RESULT, THIS, VARS,
 };
 use crate::number;
 use crate::text::Share;
@@ -115,7 +115,7 @@ impl<'p, 'a> Machine<'p, 'a> {
         &self.program.blocks[self.frame().block]
     }
 
-    fn reader(&self) -> Reader<'_> {
+    pub(crate) fn reader(&self) -> Reader<'_> {
         let frame = self.frame();
         Reader {
             objects: &self.objects,
@@ -163,6 +163,8 @@ impl<'p, 'a> Machine<'p, 'a> {
             }
             Action::Compute(compute) => self.compute(*compute)?,
             Action::New(x, class) => self.create(*x, *class)?,
+            Action::Open(open) => self.open(*open)?,
+            Action::Shut(path) => self.reader().shut(*path)?,
             Action::Assert(formula) | Action::Join(formula) => {
                 self.reader().formula(formula, Tested::Line)?;
             }
@@ -178,12 +180,8 @@ impl<'p, 'a> Machine<'p, 'a> {
             }
             // "also `else` (on to its `join`)"
             Action::Else(join) => return Ok(*join),
-            // W5: "Each arrival at `loop` is a step that tests the invariant,
-            // then the condition, and if that is false goes on after `again`".
             Action::Loop(rounds) => {
-                self.reader()
-                    .formula(&rounds.invariant, Tested::Invariant)?;
-                if !self.condition(rounds.condition)? {
+                if !self.arrive(rounds)? {
                     return Ok(rounds.again + 1);
                 }
             }
@@ -196,6 +194,14 @@ impl<'p, 'a> Machine<'p, 'a> {
         Ok(here + 1)
     }
 
+    /// W5: "Each arrival at `loop` is a step that tests the invariant, then the
+    /// condition, and if that is false goes on after `again`".
+    fn arrive(&self, rounds: &Loop<'a>) -> Outcome<'a, bool> {
+        let reader = self.reader();
+        reader.formula(&rounds.invariant, Tested::Invariant)?;
+        self.condition(rounds.condition)
+    }
+
     /// "`set` first tests `acc x f`." W8: "Reading needs one half, `set` both."
     fn set(&mut self, path: Path<'a>, y: Var) -> Outcome<'a, ()> {
         let reader = self.reader();
@@ -204,7 +210,7 @@ impl<'p, 'a> Machine<'p, 'a> {
         Ok(())
     }
 
-    fn assign(&mut self, x: Var, value: i32) {
+    pub(crate) fn assign(&mut self, x: Var, value: i32) {
         self.frame_mut().values[x] = value;
     }
 

@@ -46,7 +46,7 @@ pub enum Expr<'a> {
 
 #[derive(Clone, Copy, Debug, PartialEq, Eq)]
 pub enum Atom<'a> {
-    /// `acc x f` or `read x f`.
+    /// `acc x f`, `read x f` or `chain x f`.
     Permission(Share, Path<'a>),
     Eq(Expr<'a>, Expr<'a>),
     Ne(Expr<'a>, Expr<'a>),
@@ -64,6 +64,9 @@ pub enum Action<'a> {
     /// The variable and the class, a place in the program's list of classes.
     New(Var, usize),
     Call(Call),
+    Open(Open<'a>),
+    /// `shut x f`.
+    Shut(Path<'a>),
     Return(Var),
     Assert(Formula<'a>),
     Release(Formula<'a>),
@@ -106,6 +109,13 @@ pub struct Call {
     pub y: Var,
     pub method: usize,
     pub z: Var,
+}
+
+/// `open y x f`; the path is `x.f`.
+#[derive(Clone, Copy, Debug, PartialEq, Eq)]
+pub struct Open<'a> {
+    pub y: Var,
+    pub path: Path<'a>,
 }
 
 /// An `if` with the targets of its `else` and `join`.

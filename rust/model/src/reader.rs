@@ -121,13 +121,7 @@ impl Reader {
             return None;
         }
         match line {
-            Line::Set(..)
-            | Line::Let(..)
-            | Line::Compute(..)
-            | Line::New(..)
-            | Line::Call(..)
-            | Line::Assert(_)
-            | Line::Release(_) => {}
+            _ if plain(line) => {}
             // "`return x` (methods only)"
             Line::Return(_) if block == Block::Method => {}
             Line::If(_) => self.branches.push(Branch::First),
@@ -187,6 +181,22 @@ impl Reader {
         .into_iter()
         .find_map(|(limit, used, most)| (used > most).then_some(limit))
     }
+}
+
+/// Is it a statement that may stand among others in every block?
+fn plain(line: &Line) -> bool {
+    matches!(
+        line,
+        Line::Set(..)
+            | Line::Let(..)
+            | Line::Compute(..)
+            | Line::New(..)
+            | Line::Call(..)
+            | Line::Open(..)
+            | Line::Shut(..)
+            | Line::Assert(_)
+            | Line::Release(_)
+    )
 }
 
 /// "byte other than tab, LF, 33 to 126"

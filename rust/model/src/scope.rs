@@ -4,7 +4,7 @@
 use crate::faults::{Fault, Faults, Role, Sides};
 use crate::number;
 use crate::program::*;
-use crate::text::{self, reserved, Line, Name, Operator};
+use crate::text::{self, reserved, Line, Name, Operator, Share};
 
 /// Which names of the block a line may use: "`requires` names only `this` and
 /// w; `ensures` also `result`".
@@ -33,7 +33,7 @@ impl<'p, 'a> Scope<'p, 'a> {
         }
     }
 
-    fn find(&self, name: Name) -> Option<(Var, Type<'a>)> {
+    pub(crate) fn find(&self, name: Name) -> Option<(Var, Type<'a>)> {
         let header = self.block.header;
         match name {
             b"int" | b"null" => return None,
@@ -65,7 +65,7 @@ impl<'p, 'a> Scope<'p, 'a> {
 
     /// "A field is looked up in x's class ...: absent there is 6, an int x ...
     /// is 7." A reserved word is 6 whatever x is.
-    fn path(&mut self, x: Name<'a>, field: Name<'a>) -> Option<(Path<'a>, Type<'a>)> {
+    pub(crate) fn path(&mut self, x: Name<'a>, field: Name<'a>) -> Option<(Path<'a>, Type<'a>)> {
         self.faults
             .note_if(reserved(field), number::NAME, Fault::Reserved(field));
         let (var, kind) = self.var(x)?;
@@ -96,7 +96,7 @@ impl<'p, 'a> Scope<'p, 'a> {
     }
 
     /// "are int, or are null or of one class", else 7.
-    fn same(
+    pub(crate) fn same(
         &mut self,
         sides: Sides,
         left: (text::Expr<'a>, Kind<'a>),
@@ -124,6 +124,9 @@ impl<'p, 'a> Scope<'p, 'a> {
 
     fn atom(&mut self, atom: text::Atom<'a>) -> Option<Atom<'a>> {
         Some(match atom {
+            text::Atom::Permission(Share::Chain, x, field) => {
+                Atom::Permission(Share::Chain, self.link(x, field)?.0)
+            }
             text::Atom::Permission(share, x, field) => {
                 Atom::Permission(share, self.path(x, field)?.0)
             }
@@ -150,7 +153,7 @@ impl<'p, 'a> Scope<'p, 'a> {
 
     /// "`this`, w or `result` assigned by `let`, `new` or `call`" is 9, and W1:
     /// "Number 9 covers these lines too: x may not be w or `result`."
-    fn assigned(&mut self, name: Name<'a>) -> Option<(Var, Type<'a>)> {
+    pub(crate) fn assigned(&mut self, name: Name<'a>) -> Option<(Var, Type<'a>)> {
         let found = self.var(name)?;
         let local = (FIRST_LOCAL..RESULT).contains(&found.0);
         self.faults
@@ -296,6 +299,8 @@ impl<'p, 'a> Scope<'p, 'a> {
             Line::Compute(operator, x, y, z) => self.compute(operator, x, y, z),
             Line::New(x, class) => self.create(x, class),
             Line::Call(x, y, m, z) => self.call(x, y, m, z),
+            Line::Open(y, x, field) => self.open(y, x, field),
+            Line::Shut(x, field) => self.link(x, field).map(|(path, _)| Action::Shut(path)),
             Line::Return(x) => self.give_back(x),
             Line::Assert(ref formula) => self.formula(formula).map(Action::Assert),
             Line::Release(ref formula) => self.formula(formula).map(Action::Release),

@@ -4,10 +4,10 @@ use crate::limits;
 use crate::names::{Atom, Expr};
 use crate::number;
 use crate::state::{Permission, Rule, State, Term};
-use crate::text::Share;
+use crate::text::{Name, Share};
 
-/// For each listed permission the halves that are left of it.
-pub type Left = [u8; limits::PERMISSIONS];
+/// For each listed permission what is left of it.
+pub type Left = [Option<Share>; limits::PERMISSIONS];
 
 impl<'a> State<'a> {
     /// "`eq` if both sides resolve and are ~".
@@ -46,42 +46,59 @@ impl<'a> State<'a> {
 
     /// (c) "one is ~ null and the other ~ x with some `x.f` listed".
     fn null_and_owner(&self, one: &[Term], other: &[Term]) -> bool {
-        one.contains(&Term::Null)
-            && self
-                .permissions
-                .iter()
-                .any(|listed| other.contains(&Term::Var(listed.var)))
+        one.contains(&Term::Null) && self.permissions.iter().any(|listed| listed.is_of(other))
     }
 
     /// (d) "they are ~ x and ~ y with `x.f` and `y.f` two entries of the list
     /// for one f". W8: "Way (d) of showing `ne` needs an `acc` among the two."
     fn two_entries(&self, left: &[Term], right: &[Term]) -> bool {
         let entries = || self.permissions.iter().enumerate();
-        entries()
-            .filter(|(_, x)| left.contains(&Term::Var(x.var)))
-            .any(|(i, x)| {
-                entries()
-                    .filter(|(_, y)| right.contains(&Term::Var(y.var)))
-                    .any(|(j, y)| i != j && x.field == y.field && one_whole(x, y))
-            })
+        entries().filter(|(_, x)| x.is_of(left)).any(|(i, x)| {
+            entries()
+                .filter(|(_, y)| y.is_of(right))
+                .any(|(j, y)| i != j && x.field == y.field && one_whole(x, y))
+        })
     }
 
-    /// "Atoms go in order; `eq` and `ne` read the whole state." Gives the halves
-    /// that the formula leaves of each entry. A permission takes its halves of
-    /// the first entry that has so many left. W8: "`read` is shown by the first
-    /// listed, unconsumed `acc` or `read` ... `acc` is shown by an unconsumed
-    /// `acc` alone, never by a `read`, nor by two of equal paths."
-    pub fn leaves(&self, formula: &[Atom<'a>]) -> Rule<Left> {
-        let mut left = [0; limits::PERMISSIONS];
-        for (halves, listed) in left.iter_mut().zip(&self.permissions) {
-            *halves = listed.share.halves();
+    /// Nothing is taken yet.
+    pub(crate) fn whole(&self) -> Left {
+        let mut left = [None; limits::PERMISSIONS];
+        for (left, listed) in left.iter_mut().zip(&self.permissions) {
+            *left = Some(listed.share);
         }
+        left
+    }
+
+    /// A permission for f of the term is taken of the first entry that shows it.
+    /// W8: "`read` is shown by the first listed, unconsumed `acc` or `read` ...
+    /// `acc` is shown by an unconsumed `acc` alone, never by a `read`, nor by two
+    /// of equal paths." W9: a chain "by an unconsumed chain, by the same f, of an
+    /// equal variable, else by x ~ null", which consumes nothing.
+    pub(crate) fn show_permission(
+        &self,
+        share: Share,
+        of: Term<'a>,
+        field: Name<'a>,
+        left: &mut Left,
+    ) -> Rule<()> {
+        let rest = |place: usize| Some((place, left[place]?.less(share)?));
+        let shown = self.entries(of, field).find_map(rest);
+        match shown {
+            Some((place, rest)) => left[place] = rest,
+            None if share == Share::Chain && self.equals(of).contains(&Term::Null) => {}
+            None => return Err(number::NO_PERMISSION),
+        }
+        Ok(())
+    }
+
+    /// "Atoms go in order; `eq` and `ne` read the whole state." Gives what the
+    /// formula leaves of each entry.
+    pub fn leaves(&self, formula: &[Atom<'a>]) -> Rule<Left> {
+        let mut left = self.whole();
         for &atom in formula {
             match atom {
                 Atom::Permission(share, path) => {
-                    let needed = share.halves();
-                    let place = self.listed(path).find(|&place| left[place] >= needed);
-                    left[place.ok_or(number::NO_PERMISSION)?] -= needed;
+                    self.show_permission(share, Term::Var(path.var), path.field, &mut left)?;
                 }
                 Atom::Eq(left, right) => self.show_eq(left, right)?,
                 Atom::Ne(left, right) => self.show_ne(left, right)?,
@@ -95,25 +112,35 @@ impl<'a> State<'a> {
         self.leaves(formula).map(|_| ())
     }
 
-    /// Shows the formula and leaves the remainder: "the state without consumed
-    /// paths"; W3: "a name still listed is not dropped." W8: a `read` "taken from
-    /// an `acc` ... leaves a `read` of that path with its facts."
+    /// Shows the formula and leaves the remainder.
     pub fn take(&mut self, formula: &[Atom<'a>]) -> Rule<()> {
         let left = self.leaves(formula)?;
+        self.keep(left);
+        Ok(())
+    }
+
+    /// The remainder: "the state without consumed paths"; W3: "a name still listed
+    /// is not dropped." W8: a `read` "taken from an `acc` ... leaves a `read` of
+    /// that path with its facts." A consumed chain is no path: facts stay.
+    pub(crate) fn keep(&mut self, left: Left) {
         let mut dropped = Vec::new();
         let listed = std::mem::take(&mut self.permissions);
-        for (permission, halves) in listed.into_iter().zip(left) {
-            match Share::of(halves) {
+        for (permission, share) in listed.into_iter().zip(left) {
+            match share {
                 Some(share) => self.permissions.push(Permission {
                     share,
                     ..permission
                 }),
-                None => dropped.push(permission.path()),
+                None => dropped.extend(permission.path()),
             }
         }
-        dropped.retain(|path| self.permissions.iter().all(|left| left.path() != *path));
+        let listed = |path| {
+            self.permissions
+                .iter()
+                .any(|left| left.path() == Some(path))
+        };
+        dropped.retain(|&path| !listed(path));
         self.drop_terms(&dropped);
-        Ok(())
     }
 }
 

@@ -42,7 +42,8 @@ pub struct Fact<'a> {
     pub right: Term<'a>,
 }
 
-/// A listed permission `x.f`, one half of it or both (W8).
+/// A listed permission: one half of `x.f` or both (W8), or the chain from x by f
+/// (W9).
 #[derive(Clone, Copy, Debug, PartialEq, Eq)]
 pub struct Permission<'a> {
     pub share: Share,
@@ -51,8 +52,15 @@ pub struct Permission<'a> {
 }
 
 impl<'a> Permission<'a> {
-    pub fn path(self) -> Term<'a> {
-        Term::Path(self.var, self.field)
+    /// The path that it lists; a chain is none (W9).
+    pub fn path(self) -> Option<Term<'a>> {
+        let path = Term::Path(self.var, self.field);
+        self.share.lists_path().then_some(path)
+    }
+
+    /// Is it a path of one of these terms?
+    pub(crate) fn is_of(&self, owners: &[Term]) -> bool {
+        self.share.lists_path() && owners.contains(&Term::Var(self.var))
     }
 }
 
@@ -103,23 +111,29 @@ impl<'a> State<'a> {
             Expr::Path(path) => self
                 .listed(path)
                 .next()
-                .map(|place| self.permissions[place].path())
+                .and_then(|place| self.permissions[place].path())
                 .ok_or(number::UNRESOLVED),
         }
     }
 
-    /// The places of the listed `x.f` with x ~ y.
-    pub fn listed(&self, path: Path<'a>) -> impl Iterator<Item = usize> + '_ {
-        let class = self.equals(Term::Var(path.var));
+    /// The places of the entries for f of a variable ~ the term, chains too.
+    pub fn entries(&self, of: Term<'a>, field: Name<'a>) -> impl Iterator<Item = usize> + '_ {
+        let class = self.equals(of);
         (0..self.permissions.len()).filter(move |&place| {
-            let listed = self.permissions[place];
-            listed.field == path.field && class.contains(&Term::Var(listed.var))
+            let entry = self.permissions[place];
+            entry.field == field && class.contains(&Term::Var(entry.var))
         })
     }
 
-    /// The first of them with this share.
+    /// The places of the listed `x.f` with x ~ y.
+    pub fn listed(&self, path: Path<'a>) -> impl Iterator<Item = usize> + '_ {
+        self.entries(Term::Var(path.var), path.field)
+            .filter(|&place| self.permissions[place].share.lists_path())
+    }
+
+    /// The first entry of this share for f of a variable ~ x.
     pub fn first_listed(&self, share: Share, path: Path<'a>) -> Option<usize> {
-        self.listed(path)
+        self.entries(Term::Var(path.var), path.field)
             .find(|&place| self.permissions[place].share == share)
     }
 
@@ -128,7 +142,7 @@ impl<'a> State<'a> {
     fn successor(&self, term: Term<'a>, dropped: &[Term<'a>]) -> Option<Term<'a>> {
         let equals = self.equals(term);
         let vars = (0..VARS).map(Term::Var);
-        let paths = self.permissions.iter().map(|listed| listed.path());
+        let paths = self.permissions.iter().filter_map(|listed| listed.path());
         let mut numbers: Vec<i32> = equals.iter().filter_map(Term::number).collect();
         numbers.sort_unstable();
         vars.chain(paths)
@@ -179,7 +193,7 @@ impl<'a> State<'a> {
     }
 
     /// "Removing x": another variable ~ x "takes its place everywhere"; if there
-    /// is none, x and its paths are dropped. Gives what is left of the term r:
+    /// is none, x and its paths are dropped, and its chains go. Gives what is left of the term r:
     /// renamed likewise, or W3: "`let` takes the successor for its r."
     pub fn remove(&mut self, x: Var, r: Term<'a>) -> Option<Term<'a>> {
         if let Some(var) = self.equal_var(x) {
@@ -188,7 +202,7 @@ impl<'a> State<'a> {
         }
         let own = self.permissions.iter().filter(|listed| listed.var == x);
         let mut dropped = vec![Term::Var(x)];
-        dropped.extend(own.map(|listed| listed.path()));
+        dropped.extend(own.filter_map(|listed| listed.path()));
         self.permissions.retain(|listed| listed.var != x);
         let r = match dropped.contains(&r) {
             true => self.successor(r, &dropped),
@@ -233,7 +247,7 @@ impl<'a> State<'a> {
     fn add_share(&mut self, share: Share, path: Path<'a>) -> Rule<()> {
         let half = match share {
             Share::Read => self.first_listed(Share::Read, path),
-            Share::Acc => None,
+            Share::Acc | Share::Chain => None,
         };
         match half {
             Some(place) => {

@@ -18,11 +18,11 @@ pub enum Expr<'a> {
     Path(Name<'a>, Name<'a>),
 }
 
-/// "An atom is three fields: `acc x f`, `eq e e` or `ne e e`", and W8: "A new
-/// atom `read x f`".
+/// "An atom is three fields: `acc x f`, `eq e e` or `ne e e`", W8: "A new atom
+/// `read x f`", and W9: "The atom `chain x f`".
 #[derive(Clone, Copy, Debug, PartialEq, Eq)]
 pub enum Atom<'a> {
-    /// `acc x f` or `read x f`.
+    /// `acc x f`, `read x f` or `chain x f`.
     Permission(Share, Name<'a>, Name<'a>),
     Eq(Expr<'a>, Expr<'a>),
     Ne(Expr<'a>, Expr<'a>),
@@ -84,6 +84,10 @@ pub enum Line<'a> {
     Compute(Operator, Name<'a>, Name<'a>, Name<'a>),
     New(Name<'a>, Name<'a>),
     Call(Name<'a>, Name<'a>, Name<'a>, Name<'a>),
+    /// W9: `open y x f`.
+    Open(Name<'a>, Name<'a>, Name<'a>),
+    /// W9: `shut x f`.
+    Shut(Name<'a>, Name<'a>),
     Return(Name<'a>),
     Assert(Formula<'a>),
     Release(Formula<'a>),
@@ -225,6 +229,8 @@ fn named_line<'a>(word: &[u8], names: &[Name<'a>]) -> Option<Line<'a>> {
         (b"sub", &[x, y, z]) => Line::Compute(Operator::Sub, x, y, z),
         (b"new", &[x, class]) => Line::New(x, class),
         (b"call", &[x, y, m, z]) => Line::Call(x, y, m, z),
+        (b"open", &[y, x, f]) => Line::Open(y, x, f),
+        (b"shut", &[x, f]) => Line::Shut(x, f),
         (b"return", &[x]) => Line::Return(x),
         (b"else", &[]) => Line::Else,
         (b"again", &[]) => Line::Again,

@@ -16,6 +16,8 @@ pub enum Need<'f, 'a> {
     Read(Expr<'a>),
     /// The atoms are shown, in order.
     Show(&'f [Atom<'a>]),
+    /// A chain by f of the value of `x.f` is shown.
+    Rest(Path<'a>),
 }
 
 /// For what a rule asks it.
@@ -44,6 +46,10 @@ pub enum Purpose {
     RoundEnd,
     /// What the method ensures, at its `end` or at a `return`, `result` assigned.
     Ensures,
+    /// `open` takes x ≠ null, then the chain of x.
+    Open,
+    /// `shut` takes the chain of the value of `x.f`, then `x.f` whole.
+    Shut,
 }
 
 /// Who looks on. A place is one of the program's list of statements.
@@ -76,6 +82,11 @@ impl<'a, W: Watch<'a>> At<'_, W> {
             .asked(self.place, state, purpose, Need::Read(expr));
     }
 
+    pub fn rest(&mut self, state: &State<'a>, purpose: Purpose, path: Path<'a>) {
+        self.watch
+            .asked(self.place, state, purpose, Need::Rest(path));
+    }
+
     pub fn show(&mut self, state: &State<'a>, purpose: Purpose, atoms: &[Atom<'a>]) {
         self.watch
             .asked(self.place, state, purpose, Need::Show(atoms));
@@ -92,6 +103,8 @@ pub struct Asked<'a> {
     pub read: Option<Expr<'a>>,
     /// The atoms to be shown.
     pub show: Vec<Atom<'a>>,
+    /// The path of whose value a chain is to be shown.
+    pub rest: Option<Path<'a>>,
 }
 
 impl<'a> Asked<'a> {
@@ -161,9 +174,10 @@ impl<'a> Watch<'a> for Record<'a> {
         if last.is_some_and(Asked::unresolved) {
             return;
         }
-        let (read, show) = match need {
-            Need::Read(expr) => (Some(expr), Vec::new()),
-            Need::Show(atoms) => (None, atoms.to_vec()),
+        let (read, show, rest) = match need {
+            Need::Read(expr) => (Some(expr), Vec::new(), None),
+            Need::Show(atoms) => (None, atoms.to_vec(), None),
+            Need::Rest(path) => (None, Vec::new(), Some(path)),
         };
         self.asked = Some(Asked {
             place,
@@ -171,6 +185,7 @@ impl<'a> Watch<'a> for Record<'a> {
             state: state.clone(),
             read,
             show,
+            rest,
         });
     }
 
@@ -199,7 +214,7 @@ pub enum Tested {
 #[derive(Clone, Copy, Debug, PartialEq, Eq)]
 pub struct Missing {
     pub location: Location,
-    /// How much of it was needed.
+    /// How much of it was needed, by the kind of what needed it.
     pub share: Share,
     /// The halves that the frame held.
     pub held: u8,
@@ -218,6 +233,8 @@ pub struct Halt<'a> {
     pub path: Option<Path<'a>>,
     /// What was missing there, for number 24.
     pub missing: Option<Missing>,
+    /// The location that the walk over a chain came to again, for number 26.
+    pub ring: Option<Location>,
 }
 
 impl<'a> Halt<'a> {
@@ -228,6 +245,7 @@ impl<'a> Halt<'a> {
             atom: None,
             path: None,
             missing: None,
+            ring: None,
         }
     }
 

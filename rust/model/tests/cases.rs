@@ -37,6 +37,7 @@ const BEFORE_W7: &[Level] = &[
 const SINCE_W7: &[Level] = &[
     ("W7", include_str!("cases/w7.tsv"), 186, &[]),
     ("W8", include_str!("cases/w8.tsv"), 164, &[]),
+    ("W9", include_str!("cases/w9.tsv"), 227, &[]),
 ];
 
 /// Which call a file's `run` is.

@@ -146,7 +146,7 @@ fn terms<'a>(states: [&State<'a>; 2]) -> Vec<Term<'a>> {
     let mut terms = Vec::new();
     for state in states {
         terms.extend(state.facts.iter().flat_map(|fact| [fact.left, fact.right]));
-        terms.extend(state.permissions.iter().map(|listed| listed.path()));
+        terms.extend(state.permissions.iter().filter_map(|listed| listed.path()));
     }
     terms
 }
@@ -167,7 +167,7 @@ fn drops<'a>(program: &Program<'a>, record: &Record<'a>, place: usize) -> Option
         Action::Let(x, _) if int(x) => Some(Term::Var(x)),
         Action::Set(path, _) => {
             let place = before.first_listed(Share::Acc, path)?;
-            Some(before.permissions[place].path())
+            before.permissions[place].path()
         }
         _ => None,
     }
@@ -199,7 +199,8 @@ fn terms_that_are_left_stay_equal() {
             }
             statements += 1;
             let mut left = terms([before, after]);
-            let listed = |path| after.permissions.iter().any(|left| left.path() == path);
+            let paths = || after.permissions.iter().filter_map(|left| left.path());
+            let listed = |path| paths().any(|left| left == path);
             left.retain(|&term| {
                 Some(term) != gone && (!matches!(term, Term::Path(..)) || listed(term))
             });

@@ -1,11 +1,11 @@
 //! What the checker knows is so: in the run of an accepted text, before each
 //! step, the frame holds the halves of the listed permissions, those of one
-//! location in sum, and every fact is true.
+//! location in sum and those of all locations of a chain, and every fact is true.
 
 mod common;
 
 use common::{example, text};
-use model::checker::{check_observed, State, Term};
+use model::checker::{check_observed, Permission, State, Term};
 use model::machine::{location, Frame, Location, Machine, Step};
 use model::names::{Action, Block, Path, Program, Type, Var, FIRST_LOCAL, PARAM, RESULT, THIS};
 use model::text::Share;
@@ -43,15 +43,40 @@ fn value(machine: &Machine, frame: &Frame, term: Term) -> Option<i32> {
     })
 }
 
+/// The locations on the way from x by f to null; none if it is a ring.
+fn chain(machine: &Machine, frame: &Frame, var: Var, field: &[u8]) -> Option<Vec<Location>> {
+    let mut frame = *frame;
+    let mut passed = Vec::new();
+    while let Some(next) = place(machine, &frame, var, field) {
+        if passed.contains(&next) {
+            return None;
+        }
+        passed.push(next);
+        frame.values[var] = machine.heap[next];
+    }
+    Some(passed)
+}
+
+/// The locations of a listed permission; none if it cannot be so.
+fn locations(machine: &Machine, frame: &Frame, listed: &Permission) -> Option<Vec<Location>> {
+    let (var, field) = (listed.var, listed.field);
+    match listed.share {
+        Share::Chain => chain(machine, frame, var, field),
+        _ => place(machine, frame, var, field).map(|place| vec![place]),
+    }
+}
+
 /// Does the state hold of the frame that runs?
 fn holds(machine: &Machine, state: &State) -> bool {
     let frame = machine.frame();
     let mut listed: BTreeMap<Location, u8> = BTreeMap::new();
     for permission in &state.permissions {
-        let Some(place) = place(machine, frame, permission.var, permission.field) else {
+        let Some(places) = locations(machine, frame, permission) else {
             return false;
         };
-        *listed.entry(place).or_insert(0) += permission.share.halves();
+        for place in places {
+            *listed.entry(place).or_insert(0) += permission.share.halves();
+        }
     }
     let held = |(&place, &halves): (&Location, &u8)| frame.held.halves(place) >= halves;
     if !listed.iter().all(held) {
@@ -85,6 +110,8 @@ struct Counts {
     permissions: usize,
     /// Those of them that are halves.
     halves: usize,
+    /// Those of them that are chains.
+    chains: usize,
     facts: usize,
 }
 
@@ -98,8 +125,12 @@ fn first_wrong(text: &[u8], counts: &mut Counts) -> Option<u32> {
         if let Some(state) = &states[machine.frame().next] {
             counts.states += 1;
             counts.permissions += state.permissions.len();
-            let halves = state.permissions.iter();
-            counts.halves += halves.filter(|held| held.share == Share::Read).count();
+            let of = |share| {
+                let held = state.permissions.iter();
+                held.filter(|held| held.share == share).count()
+            };
+            counts.halves += of(Share::Read);
+            counts.chains += of(Share::Chain);
             counts.facts += state.facts.len();
             if !holds(&machine, state) {
                 return Some(machine.statement().line);
@@ -152,5 +183,5 @@ fn what_the_checker_knows_is_so() {
     println!("{counts:?}");
     assert!(counts.texts > 1_000 && counts.states > 50_000);
     assert!(counts.permissions > 100_000 && counts.facts > 100_000);
-    assert!(counts.halves > 5_000);
+    assert!(counts.halves > 5_000 && counts.chains > 5_000);
 }

@@ -1,45 +1,17 @@
-use native.Mathlib.Omega.{arith}
-use Rattle.check_entailment.proofs.Showing.{enough, access-fits, access-shown, access-refused}
-use borrow.Author.Needs.{needs}
+use Rattle.check_entailment.proofs.Showing.{access-shown}
 use Rattle.check_entailment.proofs.show_access.Statement.{statement}
 use Rattle.check_entailment.proofs.show_access.Tie as tie
 
-entry-requires : tie.Need-entry-requires
-entry-requires c κs = search needs
+variable-key-requires : tie.Need-variable-key-requires
+variable-key-requires c κs = tt
 
-element-copy-out-if1 : tie.Need-element-copy-out-if1
-element-copy-out-if1 c = search needs
-
-cast-if1 : tie.Need-cast-if1
-cast-if1 c = search needs
-
-array-read-after : tie.Need-array-read-after
-array-read-after c = search needs
-
-sub-after : tie.Need-sub-after
-sub-after c = omega (arith, enough _ _ (c .before .before .before .before .pre .0) _ (c .before .before .before .before .pre .1) _ _ _ _ (c .before .before .before .before .pre .2) (c .before .before .entry .ensures) (c .if1 .taken))
-
-array-write-after : tie.Need-array-write-after
-array-write-after c = search needs
+take-requires : tie.Need-take-requires
+take-requires c κs = c .before .pre
 
 returns : tie.Need-returns
-returns c = (
-  access-fits _ _ (c .before .before .before .before .pre .0) _ (c .before .before .before .before .pre .1) _ _ _ _ (c .before .before .before .before .pre .2) (c .before .before .entry .ensures) (c .if1 .taken),
-  access-shown _ _ (c .before .before .before .before .pre .0) _ (c .before .before .before .before .pre .1) _ _ _ _ (c .before .before .before .before .pre .2) (c .before .before .entry .ensures) (c .if1 .taken),
-)
-
-returns-2 : tie.Need-returns-2
-returns-2 c = (c .before .before .before .before .pre .1, access-refused _ _ (c .before .before .before .before .pre .0) _ (c .before .before .before .before .pre .1) _ _ _ _ (c .before .before .before .before .pre .2) (c .before .before .entry .ensures) (c .if1 .left))
+returns c =
+    let a = c .before .before .args in
+    (c .take .ensures .0, access-shown (a .key .now) (a .b .now) (a .left) (a .want) _ (a .y) (a .f) _ (c .take .result .left) (c .before .variable-key .ensures .0) (c .take .ensures .1))
 
 pub show-access-spec : {M : Type 1} → statement M
-show-access-spec =
-    tie.close
-    (tie.spec
-    entry-requires
-    element-copy-out-if1
-    cast-if1
-    array-read-after
-    sub-after
-    array-write-after
-    returns
-    returns-2)
+show-access-spec = tie.close (tie.spec variable-key-requires take-requires returns)

@@ -13,10 +13,10 @@ entries-at-requires : tie.Need-entries-at-requires
 entries-at-requires c κs = search needs
 
 drop-key-requires : tie.Need-drop-key-requires
-drop-key-requires c κs = (c .before .before .before .before .before .before .pre .0, path-forgettable _ _ _ (c .before .before .before .before .before .before .args .i) _ (c .before .before .before .before .before .before .pre .2) (c .before .before .before .entries-at .ensures))
+drop-key-requires c κs = (c .before .before .before .before .before .before .pre .0, path-forgettable _ _ _ (c .before .before .before .before .before .before .args .i) _ (c .before .before .before .before .before .before .pre .1) (c .before .before .before .before .before .before .pre .2) (c .before .before .before .entries-at .ensures))
 
 returns : tie.Need-returns
-returns c = path-law _ _ _ (c .before .before .before .before .before .before .before .args .i) _ (c .before .before .before .before .before .before .before .pre .2) (c .before .before .before .before .entries-at .ensures) _ _ (c .before .before .before .before .before .before .before .pre .0) (c .drop-key .ensures)
+returns c = path-law _ _ _ (c .before .before .before .before .before .before .before .args .i) _ (c .before .before .before .before .before .before .before .pre .1) (c .before .before .before .before .before .before .before .pre .2) (c .before .before .before .before .entries-at .ensures) _ _ (c .before .before .before .before .before .before .before .pre .0) (c .drop-key .ensures)
 
 pub without-path-spec : {M : Type 1} → statement M
 without-path-spec =

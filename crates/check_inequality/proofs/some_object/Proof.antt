@@ -4,8 +4,8 @@ use Rattle.check_state.specs.States.{permissionAt, permissionsIn}
 use Rattle.check_equality.proofs.Listing.{any-none, any-past, any-found}
 use Rattle.check_equality.specs.Keys.{termOf}
 use Rattle.rules.specs.Base.{any}
-use Rattle.rules.specs.Syntax.{var, same}
-use mathlib.Core.Bool.{false}
+use Rattle.rules.specs.Syntax.{var, same, isPath}
+use mathlib.Core.Bool.{false, _&&_}
 use mathlib.Core.Path.{_≡_, sym, _∙_}
 use native.Mathlib.Omega.{arith}
 use Rattle.check_inequality.proofs.some_object.Statement.{statement}
@@ -13,7 +13,7 @@ use Rattle.check_inequality.proofs.some_object.Tie as tie
 
 abbrev Inv-loop : tie.InvT-loop
 Inv-loop key b m n k a i₀ i =
-    (i ≤ n) × Told key b m (λ same. any (λ p. same (var (p .variable)) (termOf k)) (permissionsIn b i) ≡ false)
+    (i ≤ n) × Told key b m (λ same. any (λ p. isPath (p .permit) && same (var (p .variable)) (termOf k)) (permissionsIn b i) ≡ false)
 
 abbrev μ-loop : tie.MeasureT-loop
 μ-loop key b m n k a i₀ i = n - i
@@ -21,18 +21,24 @@ abbrev μ-loop : tie.MeasureT-loop
 loop-holds : tie.Need-loop-holds Inv-loop μ-loop
 loop-holds c = (omega arith, λ fs D. any-none _ _)
 
-add-variable-is : tie.Need-add-variable-is Inv-loop μ-loop
-add-variable-is c = omega arith
+add-is-object : tie.Need-add-is-object Inv-loop μ-loop
+add-is-object c = omega arith
 
-element-copy-out-variable-is : tie.Need-element-copy-out-variable-is Inv-loop μ-loop
-element-copy-out-variable-is c = omega arith
+element-copy-out-is-object : tie.Need-element-copy-out-is-object Inv-loop μ-loop
+element-copy-out-is-object c = omega arith
 
-variable-is-requires : tie.Need-variable-is-requires Inv-loop μ-loop
-variable-is-requires c κs = (c .before .before .before .pre .0, c .before .before .before .pre .1)
+add-is-object-2 : tie.Need-add-is-object-2 Inv-loop μ-loop
+add-is-object-2 c = omega arith
+
+element-copy-out-is-object-2 : tie.Need-element-copy-out-is-object-2 Inv-loop μ-loop
+element-copy-out-is-object-2 c = omega arith
+
+is-object-requires : tie.Need-is-object-requires Inv-loop μ-loop
+is-object-requires c κs = (c .before .before .before .before .pre .0, c .before .before .before .before .pre .1)
 
 returns : tie.Need-returns Inv-loop μ-loop
 returns c =
-    λ fs D. sym (any-found _ (permissionAt (c .before .before .before .before .before .args .b .now)) _ (c .before .before .before .before .loop .i) (c .before .before .before .loop-test .taken) (sym (c .before .variable-is .ensures fs D) ∙ c .if1 .taken))
+    λ fs D. sym (any-found _ (permissionAt (c .before .before .before .before .before .before .args .b .now)) _ (c .before .before .before .before .before .loop .i) (c .before .before .before .before .loop-test .taken) (sym (c .before .is-object .ensures fs D) ∙ c .if1 .taken))
 
 add-i : tie.Need-add-i Inv-loop μ-loop
 add-i c = omega arith
@@ -42,7 +48,7 @@ loop-less c = omega arith
 
 loop-again : tie.Need-loop-again Inv-loop μ-loop
 loop-again c =
-    (omega arith, λ fs D. any-past _ (permissionAt (c .before .before .before .before .before .args .b .now)) _ (c .before .before .before .before .loop .inv .1 fs D) (sym (c .before .variable-is .ensures fs D) ∙ c .if1 .left))
+    (omega arith, λ fs D. any-past _ (permissionAt (c .before .before .before .before .before .before .args .b .now)) _ (c .before .before .before .before .before .loop .inv .1 fs D) (sym (c .before .is-object .ensures fs D) ∙ c .if1 .left))
 
 returns-2 : tie.Need-returns-2 Inv-loop μ-loop
 returns-2 c =
@@ -55,9 +61,11 @@ some-object-spec =
     Inv-loop
     μ-loop
     loop-holds
-    add-variable-is
-    element-copy-out-variable-is
-    variable-is-requires
+    add-is-object
+    element-copy-out-is-object
+    add-is-object-2
+    element-copy-out-is-object-2
+    is-object-requires
     returns
     add-i
     loop-less

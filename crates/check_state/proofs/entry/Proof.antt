@@ -16,11 +16,11 @@ mul-m c = omega (arith, c .before .pre .linked .fit, c .before .pre .fit)
 add-m : tie.Need-add-m
 add-m c = omega (arith, c .before .pre .linked .fit, c .before .pre .fit)
 
-element-copy-out-find : tie.Need-element-copy-out-find
-element-copy-out-find c = omega arith
+element-copy-out-n : tie.Need-element-copy-out-n
+element-copy-out-n c = omega arith
 
-cast-find : tie.Need-cast-find
-cast-find c = omega (arith, c .before .before .pre .linked .fit, c .before .before .pre .fit)
+cast-n : tie.Need-cast-n
+cast-n c = omega (arith, c .before .before .pre .linked .fit, c .before .before .pre .fit)
 
 find-requires : tie.Need-find-requires
 find-requires c κs = search needs
@@ -37,7 +37,7 @@ entry-spec =
     cast-m
     mul-m
     add-m
-    element-copy-out-find
-    cast-find
+    element-copy-out-n
+    cast-n
     find-requires
     returns)

@@ -9,22 +9,22 @@ use Rattle.check_state.proofs.kinds.Statement.{statement}
 use Rattle.check_state.proofs.kinds.Tie as tie
 
 abbrev Inv-loop : tie.InvT-loop
-Inv-loop b halves₀ i₀ halves i = (i ≤ most-permissions) × Bytes (kindAt b) i halves
+Inv-loop b all₀ i₀ all i = (i ≤ most-permissions) × Bytes (kindAt b) i all
 
 abbrev μ-loop : tie.MeasureT-loop
-μ-loop b halves₀ i₀ halves i = most-permissions - i
+μ-loop b all₀ i₀ all i = most-permissions - i
 
 loop-holds : tie.Need-loop-holds Inv-loop μ-loop
 loop-holds c = (omega arith, record { size = refl; at = λ i h. absurd (omega arith) })
 
-add-halves : tie.Need-add-halves Inv-loop μ-loop
-add-halves c = omega arith
+add-all : tie.Need-add-all Inv-loop μ-loop
+add-all c = omega arith
 
-element-copy-out-halves : tie.Need-element-copy-out-halves Inv-loop μ-loop
-element-copy-out-halves c = omega arith
+element-copy-out-all : tie.Need-element-copy-out-all Inv-loop μ-loop
+element-copy-out-all c = omega arith
 
-array-write-halves : tie.Need-array-write-halves Inv-loop μ-loop
-array-write-halves c = omega (arith, c .before .before .loop .inv .1 .size)
+array-write-all : tie.Need-array-write-all Inv-loop μ-loop
+array-write-all c = omega (arith, c .before .before .loop .inv .1 .size)
 
 add-i : tie.Need-add-i Inv-loop μ-loop
 add-i c = omega arith
@@ -45,9 +45,9 @@ kinds-spec =
     Inv-loop
     μ-loop
     loop-holds
-    add-halves
-    element-copy-out-halves
-    array-write-halves
+    add-all
+    element-copy-out-all
+    array-write-all
     add-i
     loop-less
     loop-again

@@ -1,6 +1,6 @@
 use native.Mathlib.Omega.{arith}
 use Rattle.check_entailment.specs.Answers.{answered}
-use Rattle.check_statements.proofs.Ruled.{adds-same, adds-no, set-refused, set-found}
+use Rattle.check_statements.proofs.Ruled.{adds-same, adds-no, set-refused, set-path, set-found}
 use mathlib.Core.Path.{sym}
 use Rattle.check_equality.specs.Links.{relOf}
 use Rattle.check_entailment.specs.declared.Answer.{Answer}
@@ -11,6 +11,9 @@ use Rattle.check_statements.proofs.set_rule.Tie as tie
 kinds-requires : tie.Need-kinds-requires
 kinds-requires c κs = search needs
 
+variable-key-requires : tie.Need-variable-key-requires
+variable-key-requires c κs = tt
+
 entry-requires : tie.Need-entry-requires
 entry-requires c κs = search needs
 
@@ -18,7 +21,7 @@ element-copy-out-if1 : tie.Need-element-copy-out-if1
 element-copy-out-if1 c = search needs
 
 cast-if1 : tie.Need-cast-if1
-cast-if1 c = omega (arith, c .before .before .before .before .before .before .before .pre .fit)
+cast-if1 c = omega (arith, c .before .before .before .before .before .before .before .before .pre .fit)
 
 add-path-key : tie.Need-add-path-key
 add-path-key c = search needs
@@ -37,41 +40,40 @@ path-key-requires c κs = search needs
 
 without-path-requires : tie.Need-without-path-requires
 without-path-requires c κs =
-    let start = c .before .before .before .before .before .before .before .before .before .before .before .before .before in
-    let at-if1 = c .before .before .before .before .before .if1 in
-    let at-path-key = c .before .before .path-key in
-    (start .pre, at-if1 .taken, at-path-key .ensures .0)
+    let start = c .before .before .before .before .before .before .before .before .before .before .before .before .before .before in
+    let found = rw (c .before .before .before .before .before .before .before .before .before .before .before .variable-key .ensures .0) at (c .before .before .before .before .before .before .before .entry .ensures) in
+    (start .pre, set-path _ _ (start .pre) _ (c .before .before .before .before .before .before .before .before .before .before .before .before .kinds .ensures) _ _ (start .args .y) _ found (c .before .before .before .before .before .if1 .taken), c .before .before .path-key .ensures .0)
 
-variable-key-requires : tie.Need-variable-key-requires
-variable-key-requires c κs = search needs
+variable-key-requires-2 : tie.Need-variable-key-requires-2
+variable-key-requires-2 c κs = tt
 
 add-fact-requires : tie.Need-add-fact-requires
-add-fact-requires c κs = search needs
+add-fact-requires c κs = c .before .before .before .without-path .ensures .wf
 
 returns : tie.Need-returns
 unfolding relOf
 returns c =
-    let start = c .before .before .before .before .before .before .before .before .before .before .before .before .before .before .before .before .before .before in
-    let at-kinds = c .before .before .before .before .before .before .before .before .before .before .before .before .before .before .before .before .kinds in
-    let at-entry = c .before .before .before .before .before .before .before .before .before .before .before .before .entry in
-    let at-if1 = c .before .before .before .before .before .before .before .before .before .before .if1 in
+    let start = c .before .before .before .before .before .before .before .before .before .before .before .before .before .before .before .before .before .before .before in
     let at-path-key = c .before .before .before .before .before .before .before .path-key in
     let at-without-path = c .before .before .before .before .without-path in
-    adds-same _ _ _ _ _ (rw (at-path-key .ensures .0, c .before .variable-key .ensures .0, at-without-path .ensures .same) (sym (set-found (start .args .key .now) (start .args .b .now) (start .pre) _ (at-kinds .ensures) _ _ _ _ (at-entry .ensures) (at-if1 .taken)))) (c .add-fact .ensures)
+    let found = rw (c .before .before .before .before .before .before .before .before .before .before .before .before .before .before .before .before .variable-key .ensures .0) at (c .before .before .before .before .before .before .before .before .before .before .before .before .entry .ensures) in
+    adds-same _ _ _ _ _ (rw (at-path-key .ensures .0, c .before .variable-key2 .ensures .0, at-without-path .ensures .same)
+    (sym (set-found (start .args .key .now) (start .args .b .now) (start .pre) _ (c .before .before .before .before .before .before .before .before .before .before .before .before .before .before .before .before .before .kinds .ensures) _ _ _ _ found (c .before .before .before .before .before .before .before .before .before .before .if1 .taken))))
+    (c .add-fact .ensures)
 
 returns-2 : tie.Need-returns-2
 unfolding answered
 returns-2 c =
-    let start = c .before .before .before .before .before .before .before .before in
-    let at-kinds = c .before .before .before .before .before .before .kinds in
-    let at-entry = c .before .before .entry in
-    adds-no Answer.NoPermission _ _ (start .pre) _ (set-refused (start .args .key .now) (start .args .b .now) (start .pre) _ (at-kinds .ensures) _ _ _ _ (at-entry .ensures) (c .if1 .left))
+    let start = c .before .before .before .before .before .before .before .before .before in
+    let found = rw (c .before .before .before .before .before .before .variable-key .ensures .0) at (c .before .before .entry .ensures) in
+    adds-no Answer.NoPermission _ _ (start .pre) _ (set-refused (start .args .key .now) (start .args .b .now) (start .pre) _ (c .before .before .before .before .before .before .before .kinds .ensures) _ _ _ _ found (c .if1 .left))
 
 pub set-rule-spec : {M : Type 1} → statement M
 set-rule-spec =
     tie.close
     (tie.spec
     kinds-requires
+    variable-key-requires
     entry-requires
     element-copy-out-if1
     cast-if1
@@ -81,7 +83,7 @@ set-rule-spec =
     element-copy-out-path-key-2
     path-key-requires
     without-path-requires
-    variable-key-requires
+    variable-key-requires-2
     add-fact-requires
     returns
     returns-2)

@@ -36,15 +36,21 @@ add-path-like-2 c = omega arith
 element-copy-out-path-like-3 : tie.Need-element-copy-out-path-like-3 Inv-loop μ-loop
 element-copy-out-path-like-3 c = omega arith
 
+add-path-like-3 : tie.Need-add-path-like-3 Inv-loop μ-loop
+add-path-like-3 c = omega arith
+
+element-copy-out-path-like-4 : tie.Need-element-copy-out-path-like-4 Inv-loop μ-loop
+element-copy-out-path-like-4 c = omega arith
+
 path-like-requires : tie.Need-path-like-requires Inv-loop μ-loop
-path-like-requires c κs = (c .before .before .before .before .before .before .before .before .pre .0, c .before .before .before .before .before .before .before .before .pre .1, c .before .before .before .before .before .before .marks-like .ensures)
+path-like-requires c κs = let start = c .before .before .before .before .before .before .before .before .before in (start .pre .0, start .pre .1, c .before .before .before .before .before .before .before .marks-like .ensures)
 
 returns : tie.Need-returns Inv-loop μ-loop
 returns c =
     λ fs D.
     record {
       within = omega arith;
-      before = c .before .before .before .before .before .before .before .loop .inv .1 fs D;
+      before = c .before .before .before .before .before .before .before .before .loop .inv .1 fs D;
       found = λ _. sym (c .before .path-like .ensures fs D) ∙ c .if1 .taken;
     }
 
@@ -56,7 +62,7 @@ loop-less c = omega arith
 
 loop-again : tie.Need-loop-again Inv-loop μ-loop
 loop-again c =
-    (omega arith, λ fs D. below-more _ _ (c .before .before .before .before .before .before .before .loop .inv .1 fs D) (sym (c .before .path-like .ensures fs D) ∙ c .if1 .left))
+    (omega arith, λ fs D. below-more _ _ (c .before .before .before .before .before .before .before .before .loop .inv .1 fs D) (sym (c .before .path-like .ensures fs D) ∙ c .if1 .left))
 
 returns-2 : tie.Need-returns-2 Inv-loop μ-loop
 returns-2 c =
@@ -77,6 +83,8 @@ first-entry-spec =
     element-copy-out-path-like-2
     add-path-like-2
     element-copy-out-path-like-3
+    add-path-like-3
+    element-copy-out-path-like-4
     path-like-requires
     returns
     add-i

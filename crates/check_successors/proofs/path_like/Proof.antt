@@ -8,14 +8,14 @@ use lib.ListN.{getD}
 use mathlib.Core.Bool.{false}
 use mathlib.Core.Path.{sym, ap, _∙_}
 use native.Mathlib.Omega.{arith}
-use borrow.Author.Tests.{not-true}
+use borrow.Author.Tests.{not-true, not-false}
 use borrow.Author.Needs.{needs}
 use Rattle.check_successors.proofs.path_like.Statement.{statement}
 use Rattle.check_successors.proofs.path_like.Tie as tie
 
 returns : tie.Need-returns
 unfolding pathTest
-returns c = λ fs D. rw (c .if1 .taken)
+returns c = λ fs D. rw (not-true (c .before .args .left) (c .if1 .taken))
 
 path-key-requires : tie.Need-path-key-requires
 path-key-requires c κs = search needs
@@ -34,7 +34,7 @@ returns-2 c =
     let start = c .before .before .before .before .before in
     let at-path-key = c .before .before .before .path-key in
     let at-place = c .before .before .place in
-    rw (at-if1 .left)
+    rw (not-false (start .args .left) (at-if1 .left))
     (sym
     (ap (λ (t : Term). equalBy (representative fs) t (termOf (start .args .t))) (sym (at-path-key .ensures .0))
     ∙ unmarked-apart (start .pre .0) D _ _ (start .pre .1) _ (start .pre .2) _ (omega (arith, at-path-key .ensures .1)) (ap (λ (p : ℕ). getD
@@ -53,7 +53,7 @@ returns-3 c =
     let at-if1 = c .before .before .before .before .before .before .if1 in
     let start = c .before .before .before .before .before .before .before in
     let at-path-key = c .before .before .before .before .before .path-key in
-    rw (at-if1 .left)
+    rw (not-false (start .args .left) (at-if1 .left))
     (c .alike .ensures ∙ sym (alike D (start .pre .0 .most) _ _ _ _ (c .before .label-of .ensures) (start .pre .1))
     ∙ ap (λ (t : Term). equalBy (representative fs) t (termOf (start .args .t))) (at-path-key .ensures .0))
 

@@ -1,10 +1,10 @@
-use native.Mathlib.Omega.{arith}
 use mathlib.Core.Path.{sym, _∙_}
 use Rattle.machine.proofs.Stepping as Stepping
 use mathlib.Core.Logic.{inl, inr, ⊎-elim}
 use Rattle.run_steps.proofs.Doing.{fits}
-use borrow.Author.Needs.{needs}
 use Rattle.rules.specs.Grammar.{statementNumber}
+use native.Mathlib.Omega.{arith}
+use borrow.Author.Needs.{needs}
 use Rattle.machine.proofs.step.Statement.{statement}
 use Rattle.machine.proofs.step.Tie as tie
 
@@ -16,19 +16,23 @@ kind-at-requires c κs = search needs
 
 set-step-requires : tie.Need-set-step-requires
 unfolding statementNumber
-set-step-requires c κs = search needs
+set-step-requires c κs =
+    search needs
 
 let-step-requires : tie.Need-let-step-requires
 unfolding statementNumber
-let-step-requires c κs = search needs
+let-step-requires c κs =
+    search needs
 
 new-step-requires : tie.Need-new-step-requires
 unfolding statementNumber
-new-step-requires c κs = search needs
+new-step-requires c κs =
+    search needs
 
 call-step-requires : tie.Need-call-step-requires
 unfolding statementNumber
-call-step-requires c κs = search needs
+call-step-requires c κs =
+    search needs
 
 back-step-requires : tie.Need-back-step-requires
 back-step-requires c κs = search needs
@@ -42,15 +46,18 @@ assert-step-requires c κs =
 
 release-step-requires : tie.Need-release-step-requires
 unfolding statementNumber
-release-step-requires c κs = search needs
+release-step-requires c κs =
+    search needs
 
 if-step-requires : tie.Need-if-step-requires
 unfolding statementNumber
-if-step-requires c κs = search needs
+if-step-requires c κs =
+    search needs
 
 loop-step-requires : tie.Need-loop-step-requires
 unfolding statementNumber
-loop-step-requires c κs = search needs
+loop-step-requires c κs =
+    search needs
 
 jump-step-requires : tie.Need-jump-step-requires
 unfolding statementNumber
@@ -59,17 +66,30 @@ jump-step-requires c κs =
     let at-kind-at = c .before .before .kind-at in
     (start .pre .0, ⊎-elim (λ e. inl (sym (at-kind-at .ensures) ∙ e)) (λ e. inr (sym (at-kind-at .ensures) ∙ e)) (c .before .match .keys10))
 
+open-step-requires : tie.Need-open-step-requires
+unfolding statementNumber
+open-step-requires c κs =
+    search needs
+
+shut-step-requires : tie.Need-shut-step-requires
+unfolding statementNumber
+shut-step-requires c κs =
+    search needs
+
 compute-step-requires : tie.Need-compute-step-requires
 compute-step-requires c κs =
-    let is = c .before .before .before .before .kind-at .ensures in
-    let other = c .before .before .before .match .rest in
+    let start = c .before .before .before .before .before .before .before .before in
+    let at-kind-at = c .before .before .before .before .kind-at in
+    let at-match = c .before .before .before .match in
+    let is = at-kind-at .ensures in
+    let other = at-match .rest in
     let t =
-    Stepping.is-computing _ (fits (c .before .before .before .before .before .before .before .before .pre .0) .kind) (λ z. other .0 .0 .0 .0 .0 .0 .0 .0 .0 .1 (is ∙ z)) (λ z. other .0 .0 .0 .0 .0 .0 .0 .0 .1 (is ∙ z))
-    (λ z. other .0 .0 .0 .0 .0 .0 .0 .1 (is ∙ z)) (λ z. other .0 .0 .0 .0 .0 .0 .1 (is ∙ z)) (λ z. other .0 .0 .0 .0 .0 .1 (inl (is ∙ z)))
-    (λ o. other .0 .0 .0 .0 .1 (⊎-elim (λ z. inl (is ∙ z)) (λ z. inr (is ∙ z)) o)) (λ z. other .0 .0 .0 .1 (is ∙ z))
-    (λ z. other .0 .0 .1 (is ∙ z)) (λ z. other .0 .1 (is ∙ z))
-    (λ o. other .1 (⊎-elim (λ z. inl (is ∙ z)) (λ z. inr (is ∙ z)) o)) (λ z. other .0 .0 .0 .0 .0 .1 (inr (is ∙ z))) in
-    (c .before .before .before .before .before .before .before .before .pre .0, t)
+    Stepping.is-computing _ (fits (start .pre .0) .kind) (λ z. other .0 .0 .0 .0 .0 .0 .0 .0 .0 .0 .0 .1 (is ∙ z)) (λ z. other .0 .0 .0 .0 .0 .0 .0 .0 .0 .0 .1 (is ∙ z))
+    (λ z. other .0 .0 .0 .0 .0 .0 .0 .0 .0 .1 (is ∙ z)) (λ z. other .0 .0 .0 .0 .0 .0 .0 .0 .1 (is ∙ z)) (λ z. other .0 .0 .0 .0 .0 .0 .0 .1 (inl (is ∙ z)))
+    (λ o. other .0 .0 .0 .0 .0 .0 .1 (⊎-elim (λ z. inl (is ∙ z)) (λ z. inr (is ∙ z)) o)) (λ z. other .0 .0 .0 .0 .0 .1 (is ∙ z))
+    (λ z. other .0 .0 .0 .0 .1 (is ∙ z)) (λ z. other .0 .0 .0 .1 (is ∙ z))
+    (λ o. other .0 .0 .1 (⊎-elim (λ z. inl (is ∙ z)) (λ z. inr (is ∙ z)) o)) (λ z. other .0 .1 (is ∙ z)) (λ z. other .1 (is ∙ z)) (λ z. other .0 .0 .0 .0 .0 .0 .0 .1 (inr (is ∙ z))) in
+    (start .pre .0, t)
 
 same-length : tie.Need-same-length
 same-length c = search needs
@@ -129,8 +149,7 @@ returns-5 c =
     let at-kind-at = c .before .before .before .before .before .kind-at in
     let at-match = c .before .before .before .before .match in
     let at-back-step = c .before .before .back-step in
-    Stepping.backs (start .pre .0) _ (⊎-elim (λ e. inl (sym (at-kind-at .ensures) ∙ e)) (λ e. inr (sym (at-kind-at .ensures) ∙ e)) (at-match .keys5))
-    (at-back-step .ensures)
+    Stepping.backs (start .pre .0) _ (⊎-elim (λ e. inl (sym (at-kind-at .ensures) ∙ e)) (λ e. inr (sym (at-kind-at .ensures) ∙ e)) (at-match .keys5)) (at-back-step .ensures)
 
 same-length-6 : tie.Need-same-length-6
 same-length-6 c = search needs
@@ -192,33 +211,66 @@ same-length-11 : tie.Need-same-length-11
 same-length-11 c = search needs
 
 returns-11 : tie.Need-returns-11
+unfolding statementNumber
 returns-11 c =
-    let is = c .before .before .before .before .before .before .before .kind-at .ensures in
-    let other = c .before .before .before .before .before .before .match .rest in
-    let t =
-    Stepping.is-computing _ (fits (c .before .before .before .before .before .before .before .before .before .before .before .pre .0) .kind) (λ z. other .0 .0 .0 .0 .0 .0 .0 .0 .0 .1 (is ∙ z)) (λ z. other .0 .0 .0 .0 .0 .0 .0 .0 .1 (is ∙ z))
-    (λ z. other .0 .0 .0 .0 .0 .0 .0 .1 (is ∙ z)) (λ z. other .0 .0 .0 .0 .0 .0 .1 (is ∙ z)) (λ z. other .0 .0 .0 .0 .0 .1 (inl (is ∙ z)))
-    (λ o. other .0 .0 .0 .0 .1 (⊎-elim (λ z. inl (is ∙ z)) (λ z. inr (is ∙ z)) o)) (λ z. other .0 .0 .0 .1 (is ∙ z))
-    (λ z. other .0 .0 .1 (is ∙ z)) (λ z. other .0 .1 (is ∙ z))
-    (λ o. other .1 (⊎-elim (λ z. inl (is ∙ z)) (λ z. inr (is ∙ z)) o)) (λ z. other .0 .0 .0 .0 .0 .1 (inr (is ∙ z))) in
-    Stepping.computes (c .before .before .before .before .before .before .before .before .before .before .before .pre .0) _ t (c .before .before .compute-step .ensures)
+    let start = c .before .before .before .before .before .before .before .before .before in
+    let at-kind-at = c .before .before .before .before .before .kind-at in
+    let at-match = c .before .before .before .before .match in
+    let at-open-step = c .before .before .open-step in
+    Stepping.opens (start .pre .0) _ (sym (at-kind-at .ensures) ∙ at-match .keys11) (at-open-step .ensures)
 
 same-length-12 : tie.Need-same-length-12
 same-length-12 c = search needs
 
 returns-12 : tie.Need-returns-12
-returns-12 c = absurd (omega (arith, c .before .before .kind-at .ensures, c .if1 .taken, fits (c .before .before .before .before .before .before .pre .0) .kind .0))
+unfolding statementNumber
+returns-12 c =
+    let start = c .before .before .before .before .before .before .before in
+    let at-kind-at = c .before .before .before .kind-at in
+    let at-match = c .before .before .match in
+    Stepping.shuts (start .pre .0) _ (sym (at-kind-at .ensures) ∙ at-match .keys12) (c .shut-step .ensures)
 
 same-length-13 : tie.Need-same-length-13
 same-length-13 c = search needs
 
 returns-13 : tie.Need-returns-13
 returns-13 c =
-    let is = c .before .before .before .kind-at .ensures in
-    let other = c .before .before .match .rest in
+    let start = c .before .before .before .before .before .before .before .before .before .before .before in
+    let at-kind-at = c .before .before .before .before .before .before .before .kind-at in
+    let at-match = c .before .before .before .before .before .before .match in
+    let at-compute-step = c .before .before .compute-step in
+    let is = at-kind-at .ensures in
+    let other = at-match .rest in
+    let t =
+    Stepping.is-computing _ (fits (start .pre .0) .kind) (λ z. other .0 .0 .0 .0 .0 .0 .0 .0 .0 .0 .0 .1 (is ∙ z)) (λ z. other .0 .0 .0 .0 .0 .0 .0 .0 .0 .0 .1 (is ∙ z))
+    (λ z. other .0 .0 .0 .0 .0 .0 .0 .0 .0 .1 (is ∙ z)) (λ z. other .0 .0 .0 .0 .0 .0 .0 .0 .1 (is ∙ z)) (λ z. other .0 .0 .0 .0 .0 .0 .0 .1 (inl (is ∙ z)))
+    (λ o. other .0 .0 .0 .0 .0 .0 .1 (⊎-elim (λ z. inl (is ∙ z)) (λ z. inr (is ∙ z)) o)) (λ z. other .0 .0 .0 .0 .0 .1 (is ∙ z))
+    (λ z. other .0 .0 .0 .0 .1 (is ∙ z)) (λ z. other .0 .0 .0 .1 (is ∙ z))
+    (λ o. other .0 .0 .1 (⊎-elim (λ z. inl (is ∙ z)) (λ z. inr (is ∙ z)) o)) (λ z. other .0 .1 (is ∙ z)) (λ z. other .1 (is ∙ z)) (λ z. other .0 .0 .0 .0 .0 .0 .0 .1 (inr (is ∙ z))) in
+    Stepping.computes (start .pre .0) _ t (at-compute-step .ensures)
+
+same-length-14 : tie.Need-same-length-14
+same-length-14 c = search needs
+
+returns-14 : tie.Need-returns-14
+returns-14 c =
+    let start = c .before .before .before .before .before .before in
+    let at-kind-at = c .before .before .kind-at in
+    absurd (omega (arith, at-kind-at .ensures, c .if1 .taken, fits (start .pre .0) .kind .0))
+
+same-length-15 : tie.Need-same-length-15
+same-length-15 c = search needs
+
+returns-15 : tie.Need-returns-15
+returns-15 c =
+    let start = c .before .before .before .before .before .before .before in
+    let at-kind-at = c .before .before .before .kind-at in
+    let at-match = c .before .before .match in
+    let is = at-kind-at .ensures in
+    let other = at-match .rest in
     absurd
-    (Stepping.past-all _ (fits (c .before .before .before .before .before .before .before .pre .0) .kind) (omega (arith, is, c .if2 .left))
-    (λ z. other .0 .1 (is ∙ z)) (λ o. other .1 (⊎-elim (λ z. inl (is ∙ z)) (λ z. inr (is ∙ z)) o)))
+    (Stepping.past-all _ (fits (start .pre .0) .kind) (omega (arith, is, c .if2 .left))
+    (λ z. other .0 .0 .0 .1 (is ∙ z)) (λ o. other .0 .0 .1 (⊎-elim (λ z. inl (is ∙ z)) (λ z. inr (is ∙ z)) o)) (λ z. other .0 .1 (is ∙ z)) (λ z. other .1 (is ∙ z)))
 
 pub step-spec : {M : Type 1} → statement M
 step-spec =
@@ -236,6 +288,8 @@ step-spec =
     if-step-requires
     loop-step-requires
     jump-step-requires
+    open-step-requires
+    shut-step-requires
     compute-step-requires
     same-length
     returns
@@ -262,4 +316,8 @@ step-spec =
     same-length-12
     returns-12
     same-length-13
-    returns-13)
+    returns-13
+    same-length-14
+    returns-14
+    same-length-15
+    returns-15)

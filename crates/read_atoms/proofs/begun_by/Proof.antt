@@ -23,9 +23,13 @@ returns-4 c = rw (c .match .keys4)
 
 returns-5 : tie.Need-returns-5
 unfolding Atoms.opened Base.opened
-returns-5 c =
+returns-5 c = rw (c .match .keys5)
+
+returns-6 : tie.Need-returns-6
+unfolding Atoms.opened Base.opened
+returns-6 c =
     let r = c .match .rest in
-    rw (ne-eqb _ 114 (r .0 .0 .0 .1), ne-eqb _ 97 (r .0 .0 .1), ne-eqb _ 101 (r .0 .1), ne-eqb _ 110 (r .1))
+    rw (ne-eqb _ 114 (r .0 .0 .0 .0 .1), ne-eqb _ 97 (r .0 .0 .0 .1), ne-eqb _ 99 (r .0 .0 .1), ne-eqb _ 101 (r .0 .1), ne-eqb _ 110 (r .1))
 
 pub begun-by-spec : {M : Type 1} → statement M
-begun-by-spec = tie.close (tie.spec returns returns-2 returns-3 returns-4 returns-5)
+begun-by-spec = tie.close (tie.spec returns returns-2 returns-3 returns-4 returns-5 returns-6)

@@ -26,6 +26,9 @@ columns-requires-4 c κs = search needs
 columns-requires-5 : tie.Need-columns-requires-5
 columns-requires-5 c κs = search needs
 
+columns-requires-6 : tie.Need-columns-requires-6
+columns-requires-6 c κs = search needs
+
 returns : tie.Need-returns
 unfolding Atoms.opened Base.opened Text.opened Rows.opened atomOperands packed
 returns c = c .columns .ensures ∙ sym (rw (c .before .match .keys1))
@@ -44,9 +47,13 @@ returns-4 c = c .columns4 .ensures ∙ sym (rw (c .before .match .keys4))
 
 returns-5 : tie.Need-returns-5
 unfolding Atoms.opened Base.opened Text.opened Rows.opened atomOperands packed
-returns-5 c =
+returns-5 c = c .columns5 .ensures ∙ sym (rw (c .before .match .keys5))
+
+returns-6 : tie.Need-returns-6
+unfolding Atoms.opened Base.opened Text.opened Rows.opened atomOperands packed
+returns-6 c =
     let r = c .before .match .rest in
-    c .columns5 .ensures ∙ sym (rw (no-kind _ (r .0 .0 .0 .1) (r .0 .0 .1) (r .0 .1) (r .1)))
+    c .columns6 .ensures ∙ sym (rw (no-kind _ (r .0 .0 .0 .0 .1) (r .0 .0 .0 .1) (r .0 .0 .1) (r .0 .1) (r .1)))
 
 pub row-of-spec : {M : Type 1} → statement M
 row-of-spec =
@@ -57,8 +64,10 @@ row-of-spec =
     columns-requires-3
     columns-requires-4
     columns-requires-5
+    columns-requires-6
     returns
     returns-2
     returns-3
     returns-4
-    returns-5)
+    returns-5
+    returns-6)

@@ -96,9 +96,17 @@ returns-21 c = rw (c .match .keys21)
 
 returns-22 : tie.Need-returns-22
 unfolding Rows.opened Words.opened Grammar.opened Base.opened stageNumber
-returns-22 c =
+returns-22 c = rw (c .match .keys22)
+
+returns-23 : tie.Need-returns-23
+unfolding Rows.opened Words.opened Grammar.opened Base.opened stageNumber
+returns-23 c = rw (c .match .keys23)
+
+returns-24 : tie.Need-returns-24
+unfolding Rows.opened Words.opened Grammar.opened Base.opened stageNumber
+returns-24 c =
     let start = c .before in
-    let e : start .args .kind ≡ 22 = omega (arith, passed 21 (start .args .kind) (start .pre .0) (c .match .rest)) in rw e
+    let e : start .args .kind ≡ 24 = omega (arith, passed 23 (start .args .kind) (start .pre .0) (c .match .rest)) in rw e
 
 pub row-number-spec : {M : Type 1} → statement M
 row-number-spec =
@@ -125,4 +133,6 @@ row-number-spec =
     returns-19
     returns-20
     returns-21
-    returns-22)
+    returns-22
+    returns-23
+    returns-24)

@@ -26,8 +26,8 @@ returns-2 c =
     is-wrong-type (v .text .now) (v .work .now) (v .c) (v .a) (v .from) (v .kind) (c .before .before .before .before .before .line-tests .result) (c .before .before .before .before .before .line-tests .ensures)
     (not-false _ (c .before .before .before .if1 .left)) (c .before .before .sides-agree .result) (c .before .before .sides-agree .ensures) (c .before .and .result) (c .before .and .ensures) (not-true _ (c .if2 .taken))
 
-call-apart-requires : tie.Need-call-apart-requires
-call-apart-requires c κs = search needs
+are-apart-requires : tie.Need-are-apart-requires
+are-apart-requires c κs = search needs
 
 and-requires-2 : tie.Need-and-requires-2
 and-requires-2 c κs = search needs
@@ -37,14 +37,14 @@ returns-3 c =
     let v = c .before .before .before .before .before .before .before .before .before .before .before .args in
     is-wrong-target (v .text .now) (v .work .now) (v .c) (v .a) (v .from) (v .kind) (c .before .before .before .before .before .before .before .before .line-tests .result) (c .before .before .before .before .before .before .before .before .line-tests .ensures)
     (not-false _ (c .before .before .before .before .before .before .if1 .left)) (c .before .before .before .before .before .sides-agree .result) (c .before .before .before .before .before .sides-agree .ensures) (c .before .before .before .before .and .result) (c .before .before .before .before .and .ensures) (not-false _ (c .before .before .before .if2 .left))
-    (c .before .before .call-apart .result) (c .before .before .call-apart .ensures) (c .before .and2 .result) (c .before .and2 .ensures) (not-true _ (c .if3 .taken))
+    (c .before .before .are-apart .result) (c .before .before .are-apart .ensures) (c .before .and2 .result) (c .before .and2 .ensures) (not-true _ (c .if3 .taken))
 
 returns-4 : tie.Need-returns-4
 returns-4 c =
     let v = c .before .before .before .before .before .before .before .before .before .before .before .args in
     is-good (v .text .now) (v .work .now) (v .c) (v .a) (v .from) (v .kind) (c .before .before .before .before .before .before .before .before .line-tests .result) (c .before .before .before .before .before .before .before .before .line-tests .ensures)
     (not-false _ (c .before .before .before .before .before .before .if1 .left)) (c .before .before .before .before .before .sides-agree .result) (c .before .before .before .before .before .sides-agree .ensures) (c .before .before .before .before .and .result) (c .before .before .before .before .and .ensures) (not-false _ (c .before .before .before .if2 .left))
-    (c .before .before .call-apart .result) (c .before .before .call-apart .ensures) (c .before .and2 .result) (c .before .and2 .ensures) (not-false _ (c .if3 .left))
+    (c .before .before .are-apart .result) (c .before .before .are-apart .ensures) (c .before .and2 .result) (c .before .and2 .ensures) (not-false _ (c .if3 .left))
 
 pub judge-spec : {M : Type 1} → statement M
 judge-spec =
@@ -55,7 +55,7 @@ judge-spec =
     sides-agree-requires
     and-requires
     returns-2
-    call-apart-requires
+    are-apart-requires
     and-requires-2
     returns-3
     returns-4)

@@ -25,7 +25,7 @@ is-member-requires c κs = search needs
 returns : tie.Need-returns
 returns c =
     record {
-      variable = c .before .before .before .before .before .variable .ensures .number;
+      variable = c .before .before .before .before .before .variable .ensures;
       number = c .before .before .before .field-number .ensures .0;
       is = c .before .field-gives .ensures _ ∙ path-type _ _ _ _ _ _ _ _ _ (c .before .before .before .before .before .variable .ensures) (c .before .before .before .before .type-of .ensures) (c .before .before .owned-field .ensures);
       good = c .is-member .ensures ∙ path-good _ _ _ _ _ _ _ _ _ (c .before .before .before .before .before .variable .ensures) (c .before .before .before .before .type-of .ensures) (c .before .before .owned-field .ensures);

@@ -16,7 +16,7 @@ returns : tie.Need-returns
 unfolding meaning resolveExpr typeMeant exprType
 returns c =
     record {
-      expr = ap₂ path (c .before .look-path .ensures .variable) (c .before .look-path .ensures .number);
+      expr = ap₂ path (c .before .look-path .ensures .variable .number) (c .before .look-path .ensures .number);
       is = ap some (c .before .look-path .ensures .is);
       good = c .before .look-path .ensures .good;
     }

@@ -113,7 +113,15 @@ returns-26 c = rw (c .match .keys26)
 
 returns-27 : tie.Need-returns-27
 unfolding Words.opened Base.opened
-returns-27 c = sym (none-packed (Unit {0}) words 1 (c .before .args .k) (c .match .rest) .1)
+returns-27 c = rw (c .match .keys27)
+
+returns-28 : tie.Need-returns-28
+unfolding Words.opened Base.opened
+returns-28 c = rw (c .match .keys28)
+
+returns-29 : tie.Need-returns-29
+unfolding Words.opened Base.opened
+returns-29 c = sym (none-packed (Unit {0}) words 1 (c .before .args .k) (c .match .rest) .1)
 
 pub numbered-spec : {M : Type 1} → statement M
 numbered-spec =
@@ -145,4 +153,6 @@ numbered-spec =
     returns-24
     returns-25
     returns-26
-    returns-27)
+    returns-27
+    returns-28
+    returns-29)

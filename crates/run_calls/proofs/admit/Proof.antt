@@ -1,8 +1,8 @@
-use native.Mathlib.Omega.{arith}
 use mathlib.Core.Path.{refl, sym, _∙_}
 use mathlib.Core.Logic.{inl, inr}
 use Rattle.run_calls.proofs.Calling.{requires-atoms, requires-takes}
 use Rattle.run_footprint.proofs.Taking.{took-shares, took-lacking, count-shares}
+use native.Mathlib.Omega.{arith}
 use borrow.Author.Needs.{needs}
 use Rattle.run_calls.proofs.admit.Statement.{statement}
 use Rattle.run_calls.proofs.admit.Tie as tie
@@ -44,7 +44,8 @@ enter-requires c κs =
     let at-k = c .before .before .before .k in
     let e = sym (requires-takes _ _ _ (start .pre) (at-requires-first .ensures .0) (at-requires-count .ensures .0)) ∙ took-shares _ _ _ (at-k .given .1) (at-footprint .ensures .took) in
     record {
-      area = start .pre .readable .tables .size;
+      view = refl;
+      readable = start .pre .readable;
       method-fits = omega (arith, start .pre .exists, start .pre .readable .tables .methods);
       more = start .pre .more;
       numbers = start .pre .numbers;

@@ -1,10 +1,10 @@
-use native.Mathlib.Omega.{arith}
 use mathlib.Core.Path.{sym, _∙_}
 use mathlib.Core.List.{[]}
 use Rattle.run_footprint.specs.Footprints.{tookIs, countOf}
 use Rattle.run_heap.proofs.Reading.{spot-at, spot-lacking, spot-small}
 use Rattle.run_footprint.proofs.Taking.{own-fits, own-at, own-held, own-lacking}
 use Rattle.run_footprint.proofs.Sieves.{sieve-none}
+use native.Mathlib.Omega.{arith}
 use borrow.Author.Needs.{needs}
 use Rattle.run_footprint.proofs.take_share.Statement.{statement}
 use Rattle.run_footprint.proofs.take_share.Tie as tie
@@ -50,10 +50,9 @@ put-share-requires c κs =
     let at-atom-field = c .before .before .before .before .before .before .atom-field in
     let at-locate = c .before .before .before .before .before .locate in
     let at-k = c .before .before .before .k in
-    let e = spot-at _ _ (at-k .given .1) (at-locate .ensures) in let l = spot-small _ _ _ (start .pre .0 .0) e in let o = own-fits _ (start .args .v) _ _ _ _ []
-    (start .pre .0 .0 .tables .atom-fits (start .args .a) (start .pre .0 .1 .0)) (start .pre .0 .1 .1) (at-atom-kind .ensures .0) (at-atom-variable .ensures .0)
-    (at-atom-field .ensures .0) in (
-      ((start .pre .0 .0 .tables .size, omega arith), own-held _ (start .args .v) _ _ _ _ [] (start .pre .0 .0 .tables .atom-fits (start .args .a) (start .pre .0 .1 .0)) (start .pre .0 .1 .1) (at-atom-kind .ensures .0) (at-atom-variable .ensures .0) (at-atom-field .ensures .0) _ e),
+    let e = spot-at _ _ (at-k .given .1) (at-locate .ensures) in let l = spot-small _ _ _ (start .pre .0 .0) e in
+    let o = own-fits _ (start .args .v) _ _ _ _ [] (start .pre .0 .0 .tables .atom-fits (start .args .a) (start .pre .0 .1 .0)) (start .pre .0 .1 .1) (at-atom-kind .ensures .0) (at-atom-variable .ensures .0) (at-atom-field .ensures .0) in (
+      (((start .pre .0 .0, o .1 .1), omega arith), own-held _ (start .args .v) _ _ _ _ [] (start .pre .0 .0 .tables .atom-fits (start .args .a) (start .pre .0 .1 .0)) (start .pre .0 .1 .1) (at-atom-kind .ensures .0) (at-atom-variable .ensures .0) (at-atom-field .ensures .0) _ e),
       start .pre .1,
     )
 
@@ -93,8 +92,7 @@ returns-2 c =
         count = omega arith;
         size = start .pre .1 .0 .1;
       },
-      sieve-none
-          (start .args .shares .now) _ (start .pre .1 .1 .size),
+      sieve-none (start .args .shares .now) _ (start .pre .1 .1 .size),
     )
 
 pub take-share-spec : {M : Type 1} → statement M

@@ -1,10 +1,9 @@
-use native.Mathlib.Omega.{arith}
-use mathlib.Core.Path.{_∙_}
-use mathlib.Core.Path.{_≡_}
+use mathlib.Core.Path.{_≡_, _∙_}
 use Prim.Native.Nat.{_+_, _-_}
 use Rattle.run_heap.specs.Views.{frameAt}
 use Rattle.run_returns.proofs.Returning.{last-saved, end-fits, leave-does}
-use Rattle.run_steps.proofs.Doing.{size, frames-fit}
+use Rattle.run_steps.proofs.Doing.{size, frames-fit, view-readable}
+use native.Mathlib.Omega.{arith}
 use borrow.Author.Needs.{needs}
 use Rattle.run_returns.proofs.leave.Statement.{statement}
 use Rattle.run_returns.proofs.leave.Tie as tie
@@ -39,10 +38,13 @@ x-at-requires c κs =
     let at-saved-row = c .before .before .before .saved-row in
     (size (start .pre .ready), omega (arith, at-saved-row .ensures .0, last-saved (start .pre .ready) (start .pre .inner) .0, start .pre .ready .represents .tables .rows))
 
+view-of-requires : tie.Need-view-of-requires
+view-of-requires c κs = search needs
+
 mark-requires : tie.Need-mark-requires
 mark-requires c κs =
-    let start = c .before .before .before .before .before .before .before .before .before .before .before in
-    ((size (start .pre .ready), (start .pre .count, start .pre .size)), end-fits (start .pre .ready) (start .pre .inner) _ (start .pre .took))
+    let start = c .before .before .before .before .before .before .before .before .before .before .before .before in
+    ((view-readable (start .pre .ready) (c .view-of .ensures), (start .pre .count, start .pre .size)), rw (c .view-of .ensures) (end-fits (start .pre .ready) (start .pre .inner) _ (start .pre .took)))
 
 mul-put-word : tie.Need-mul-put-word
 mul-put-word c = search needs
@@ -67,15 +69,16 @@ same-length c = search needs
 
 returns : tie.Need-returns
 returns c =
-    let start = c .before .before .before .before .before .before .before .before .before .before .before .before .before .before .before .before .before .before .before in
-    let at-saved-holder = c .before .before .before .before .before .before .before .before .before .before .before .before .before .before .before .saved-holder in
-    let at-saved-row = c .before .before .before .before .before .before .before .before .before .before .before .before .before .saved-row in
-    let at-variable = c .before .before .before .before .before .before .before .before .before .before .before .variable in
-    let at-x-at = c .before .before .before .before .before .before .before .before .before .x-at in
+    let start = c .before .before .before .before .before .before .before .before .before .before .before .before .before .before .before .before .before .before .before .before in
+    let at-saved-holder = c .before .before .before .before .before .before .before .before .before .before .before .before .before .before .before .before .saved-holder in
+    let at-saved-row = c .before .before .before .before .before .before .before .before .before .before .before .before .before .before .saved-row in
+    let at-variable = c .before .before .before .before .before .before .before .before .before .before .before .before .variable in
+    let at-x-at = c .before .before .before .before .before .before .before .before .before .before .x-at in
+    let at-view-of = c .before .before .before .before .before .before .before .before .view-of in
     let at-mark = c .before .before .before .before .before .before .before .mark in
     let at-put-word = c .before .before .before .put-word in
     let at : frameAt (start .args .c .frames - 2) + 72 ≡ frameAt (start .args .c .frames - 1) = omega (arith, frames-fit (start .pre .ready), start .pre .inner) in
-    leave-does (start .pre .ready) (start .pre .inner) _ _ _ _ _ (start .pre .took) (at-saved-holder .ensures) (search needs) (at-saved-row .ensures .0) (at-x-at .ensures .0) (at-variable .ensures ∙ rw at) (search needs) (at-put-word .ensures ∙ rw (at-mark .ensures)) (c .back-in .ensures)
+    leave-does (start .pre .ready) (start .pre .inner) _ _ _ _ _ (start .pre .took) (at-saved-holder .ensures) (search needs) (at-saved-row .ensures .0) (at-x-at .ensures .0) (at-variable .ensures ∙ rw at) (search needs) (at-put-word .ensures ∙ rw (at-mark .ensures, at-view-of .ensures)) (c .back-in .ensures)
 
 pub leave-spec : {M : Type 1} → statement M
 leave-spec =
@@ -90,6 +93,7 @@ leave-spec =
     add-variable
     variable-requires
     x-at-requires
+    view-of-requires
     mark-requires
     mul-put-word
     add-put-word

@@ -1,4 +1,5 @@
-use Rattle.run_steps.proofs.Doing.{size, taken-fit, release-does, release-stops}
+use mathlib.Core.Path.{_∙_}
+use Rattle.run_steps.proofs.Doing.{view-readable, release-fit, release-does, release-stops}
 use Rattle.run_footprint.proofs.Taking.{took-shares, took-lacking, count-shares}
 use borrow.Author.Needs.{needs}
 use Rattle.run_steps.proofs.release_step.Statement.{statement}
@@ -10,12 +11,15 @@ row-footprint-requires c κs = search needs
 enum-known-n : tie.Need-enum-known-n
 enum-known-n c = search needs
 
+view-of-requires : tie.Need-view-of-requires
+view-of-requires c κs = search needs
+
 mark-requires : tie.Need-mark-requires
 mark-requires c κs =
-    let start = c .before .before .before .before .before .before .before .before .before in
-    let at-row-footprint = c .before .before .before .before .before .row-footprint in
-    let at-n = c .before .before .before .n in
-    ((size (start .pre .0), (count-shares _ _ _ (at-n .given .1) (at-row-footprint .ensures .count), at-row-footprint .ensures .size)), taken-fit (start .pre .0) _ (took-shares _ _ _ (at-n .given .1) (at-row-footprint .ensures .took)))
+    let start = c .before .before .before .before .before .before .before .before .before .before in
+    let at-row-footprint = c .before .before .before .before .before .before .row-footprint in
+    let at-n = c .before .before .before .before .n in
+    let t = took-shares _ _ _ (at-n .given .1) (at-row-footprint .ensures .took) in ((view-readable (start .pre .0) (c .before .view-of .ensures), (count-shares _ _ _ (at-n .given .1) (at-row-footprint .ensures .count), at-row-footprint .ensures .size)), release-fit (start .pre .0) _ _ (c .before .view-of .ensures) t)
 
 add-next : tie.Need-add-next
 add-next c = search needs
@@ -31,11 +35,12 @@ same-length c = search needs
 
 returns : tie.Need-returns
 returns c =
-    let start = c .before .before .before .before .before .before .before .before .before .before .before .before .before .before in
-    let at-row-footprint = c .before .before .before .before .before .before .before .before .before .before .row-footprint in
-    let at-n = c .before .before .before .before .before .before .before .before .n in
+    let start = c .before .before .before .before .before .before .before .before .before .before .before .before .before .before .before in
+    let at-row-footprint = c .before .before .before .before .before .before .before .before .before .before .before .row-footprint in
+    let at-n = c .before .before .before .before .before .before .before .before .before .n in
+    let at-view-of = c .before .before .before .before .before .before .view-of in
     let at-mark = c .before .before .before .before .mark in
-    release-does (start .pre .0) _ (start .pre .1) (took-shares _ _ _ (at-n .given .1) (at-row-footprint .ensures .took)) (at-mark .ensures) (c .next .ensures)
+    release-does (start .pre .0) _ (start .pre .1) (took-shares _ _ _ (at-n .given .1) (at-row-footprint .ensures .took)) (at-mark .ensures ∙ rw (at-view-of .ensures)) (c .next .ensures)
 
 same-length-2 : tie.Need-same-length-2
 same-length-2 c = search needs
@@ -52,6 +57,7 @@ release-step-spec =
     (tie.spec
     row-footprint-requires
     enum-known-n
+    view-of-requires
     mark-requires
     add-next
     next-requires

@@ -24,6 +24,12 @@ compute-row-requires c κs = search needs
 compute-row-requires-2 : tie.Need-compute-row-requires-2
 compute-row-requires-2 c κs = search needs
 
+open-row-requires : tie.Need-open-row-requires
+open-row-requires c κs = search needs
+
+shut-row-requires : tie.Need-shut-row-requires
+shut-row-requires c κs = search needs
+
 row-requires : tie.Need-row-requires
 row-requires c κs = search needs
 
@@ -56,10 +62,19 @@ returns-6 c = rw (c .before .match .keys6) (c .compute-row2 .ensures)
 
 returns-7 : tie.Need-returns-7
 unfolding plainRow plainGood isComputing statementNumber
-returns-7 c =
+returns-7 c = rw (c .before .match .keys7) (c .open-row .ensures)
+
+returns-8 : tie.Need-returns-8
+unfolding plainRow plainGood isComputing statementNumber
+returns-8 c = rw (c .before .match .keys8) (c .shut-row .ensures)
+
+returns-9 : tie.Need-returns-9
+unfolding plainRow plainGood isComputing statementNumber
+returns-9 c =
     let r = c .before .before .match .rest in
+    let s = r .0 .0 in
     rw
-    (ne-eqb _ 8 (r .0 .0 .0 .0 .0 .1), ne-eqb _ 10 (r .0 .0 .0 .0 .1), ne-eqb _ 11 (r .0 .0 .0 .1), ne-eqb _ 12 (r .0 .0 .1), ne-eqb _ 19 (r .0 .1), ne-eqb _ 20 (r .1), ← c .before .row .ensures)
+    (ne-eqb _ 8 (s .0 .0 .0 .0 .0 .1), ne-eqb _ 10 (s .0 .0 .0 .0 .1), ne-eqb _ 11 (s .0 .0 .0 .1), ne-eqb _ 12 (s .0 .0 .1), ne-eqb _ 19 (s .0 .1), ne-eqb _ 20 (s .1), ne-eqb _ 23 (r .0 .1), ne-eqb _ 24 (r .1), ← c .before .row .ensures)
     (c .row-if .ensures)
 
 pub plain-row-spec : {M : Type 1} → statement M
@@ -72,6 +87,8 @@ plain-row-spec =
     return-row-requires
     compute-row-requires
     compute-row-requires-2
+    open-row-requires
+    shut-row-requires
     row-requires
     row-if-requires
     returns
@@ -80,4 +97,6 @@ plain-row-spec =
     returns-4
     returns-5
     returns-6
-    returns-7)
+    returns-7
+    returns-8
+    returns-9)

@@ -1,6 +1,6 @@
 //! The answers in sentences, for the text and the page.
 
-use super::claims::{Theorem, AT_A_LINE, BOUND, EVERY_RUN, FRAMES, FRAME_KEPT, HALVES_KEPT, TRIAL};
+use super::claims::{Theorem, AT_A_LINE, BOUND, EVERY_RUN, FRAMES, TRIAL};
 use super::findings::Findings;
 use super::handed::Share;
 use super::methods::{Handed, Row};
@@ -156,36 +156,6 @@ pub const COLUMNS: [&str; 7] = [
     "called from",
 ];
 
-/// What is proved of a column, if something is.
-pub struct Proved {
-    pub theorem: &'static Theorem,
-    pub says: &'static str,
-}
-
-/// What is proved of a column: of a refused text by the theorem of trials.
-pub fn proved(findings: &Findings, column: &str) -> Option<Proved> {
-    let says = match COLUMNS.iter().position(|known| *known == column) {
-        Some(0) => "all that a call can change",
-        Some(1) => "kept by a call",
-        _ => return None,
-    };
-    let theorem = match findings.refusal() {
-        None => &EVERY_RUN,
-        Some(_) => &TRIAL,
-    };
-    Some(Proved { theorem, says })
-}
-
-/// What is proved of the two columns, in full.
-pub fn proved_of_methods() -> String {
-    format!(
-        "Proved: of the cards that are there at a call, it can change what is handed over, by \
-         `acc` or by both halves, and nothing else; what is handed over for reading, by one \
-         half, keeps its value (`{FRAME_KEPT}`). All frames together hold at most two halves of \
-         a field (`{HALVES_KEPT}`). The other columns are read off the text."
-    )
-}
-
 fn at_line(mut said: Said, line: u32) -> Said {
     said.extend([text(" (line "), Piece::Line(line), text(")")]);
     said
@@ -222,8 +192,18 @@ fn whole(row: &Row) -> Said {
 /// What is handed over for reading.
 fn for_reading(row: &Row) -> Said {
     let handed = row.handed.iter();
-    let half = handed.filter(|handed| handed.share != Share::Whole);
+    let half = handed.filter(|handed| !matches!(handed.share, Share::Whole | Share::Chain));
     joined(half.map(|handed| handed_if(handed, "another")), "nothing")
+}
+
+/// What is not given back, and of which chains perhaps not all is.
+fn kept(row: &Row) -> Said {
+    let kept = row.handed.iter().filter(|handed| !handed.back);
+    let said = kept.map(|handed| match handed.perhaps {
+        true => vec![text("perhaps a part of "), code(handed.path.clone())],
+        false => vec![code(handed.path.clone())],
+    });
+    joined(said, "nothing")
 }
 
 /// What stands in the columns for a method or main.
@@ -256,7 +236,7 @@ pub fn cells(row: &Row) -> [Said; 7] {
         for_reading(row),
         joined(written, "nothing"),
         paths(&|handed| !handed.written),
-        paths(&|handed| !handed.back),
+        kept(row),
         joined(makes, "none"),
         joined(callers, never),
     ]

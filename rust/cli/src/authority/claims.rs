@@ -60,6 +60,8 @@ pub const THEOREMS: [&Theorem; 6] = [
 pub const FRAME_KEPT: &str = "FrameKept";
 /// The part on the halves of a field that all frames hold together.
 pub const HALVES_KEPT: &str = "HalvesKept";
+/// The parts on who holds a chain, and on who is handed one.
+pub const CHAINS: [&str; 2] = ["ChainsEnd", "ChainsHanded"];
 
 /// Something that is assumed, and the anchor of its place.
 pub struct Assumed {
@@ -99,7 +101,7 @@ pub const ASSUMED: [Assumed; 5] = [
 
 #[cfg(test)]
 mod tests {
-    use super::{ASSUMED, FRAME_KEPT, HALVES_KEPT, THEOREMS};
+    use super::{ASSUMED, CHAINS, FRAME_KEPT, HALVES_KEPT, THEOREMS};
     use std::path::Path;
 
     fn read(path: &str) -> String {
@@ -129,7 +131,7 @@ mod tests {
     fn parts_are_there() {
         let page = read("docs/ASSURANCE.md");
         let words = "crates/rules/specs/Runs.antt";
-        for part in [FRAME_KEPT, HALVES_KEPT] {
+        for part in [FRAME_KEPT, HALVES_KEPT, CHAINS[0], CHAINS[1]] {
             assert!(
                 read(words).contains(&format!("abbrev pub {part} : ")),
                 "{part}"

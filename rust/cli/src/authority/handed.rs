@@ -2,7 +2,7 @@
 //! whether `ensures` gives as many back.
 
 use explain::script::Script;
-use model::names::{Atom, Expr, Path, Var, PARAM, THIS};
+use model::names::{Action, Atom, Expr, Path, Var, PARAM, THIS};
 use model::text::Share as Atoms;
 use model::watch::Record;
 
@@ -15,6 +15,8 @@ pub enum Share<Other> {
     Half,
     /// One half, and another path has the other one if both are of one card.
     Either(Other),
+    /// Both halves, and those of the field of each card that it leads to.
+    Chain,
 }
 
 impl<Other> Share<Other> {
@@ -22,6 +24,7 @@ impl<Other> Share<Other> {
         match self {
             Share::Whole => "whole",
             Share::Half | Share::Either(_) => "half",
+            Share::Chain => "chain",
         }
     }
 
@@ -29,13 +32,13 @@ impl<Other> Share<Other> {
     pub fn other(&self) -> Option<&Other> {
         match self {
             Share::Either(other) => Some(other),
-            Share::Whole | Share::Half => None,
+            Share::Whole | Share::Half | Share::Chain => None,
         }
     }
 
     fn halves(&self) -> u8 {
         match self {
-            Share::Whole => Atoms::Acc.halves(),
+            Share::Whole | Share::Chain => Atoms::Acc.halves(),
             Share::Half | Share::Either(_) => Atoms::Read.halves(),
         }
     }
@@ -47,14 +50,26 @@ impl<Other> Share<Other> {
     }
 }
 
-/// A path that is handed over.
+/// A path that is handed over, or a chain by its first link.
 #[derive(Clone, Copy)]
 pub struct Permission<'a> {
     pub path: Path<'a>,
     pub share: Share<Path<'a>>,
 }
 
-/// The paths of a formula, with the halves that each atom is.
+impl<'a> Permission<'a> {
+    /// The atom that hands all of it over.
+    pub fn atom(&self) -> Atom<'a> {
+        let share = match self.share {
+            Share::Chain => Atoms::Chain,
+            _ => Atoms::Acc,
+        };
+        Atom::Permission(share, self.path)
+    }
+}
+
+/// The paths of a formula, with the halves that each atom is of them; a chain is of
+/// its first link.
 fn atoms<'a, 'f>(formula: &'f [Atom<'a>]) -> impl Iterator<Item = (Path<'a>, u8)> + 'f {
     formula.iter().filter_map(|atom| match *atom {
         Atom::Permission(share, path) => Some((path, share.halves())),
@@ -112,6 +127,14 @@ impl<'s, 'a> Contracts<'s, 'a> {
         state.is_some_and(|state| state.show(&[atom]).is_ok())
     }
 
+    /// Does the checker know before a line that two permissions are there, each beside
+    /// the other?
+    pub fn beside(&self, place: usize, one: Atom<'a>, other: Atom<'a>) -> bool {
+        let seen = self.known.as_ref().map(|known| &known.seen[place]);
+        let state = seen.and_then(|seen| seen.before.as_ref());
+        state.is_some_and(|state| state.show(&[one, other]).is_ok())
+    }
+
     /// Does the checker know before a line that two variables are of two cards?
     pub fn differ(&self, place: usize, one: Var, other: Var) -> bool {
         self.shows(place, Atom::Ne(Expr::Var(one), Expr::Var(other)))
@@ -138,20 +161,26 @@ impl<'s, 'a> Contracts<'s, 'a> {
         names.kind(one) == names.kind(other)
     }
 
-    /// What a block is handed, each path once.
+    /// What a block is handed, each path and each chain once.
     pub fn handed(&self, block: usize) -> Vec<Permission<'a>> {
         let requires = &self.script.program.blocks[block].requires;
-        let mut paths: Vec<Path> = Vec::new();
-        for (path, _) in atoms(requires) {
-            if !paths.contains(&path) {
-                paths.push(path);
+        let mut asked: Vec<(bool, Path)> = Vec::new();
+        for atom in requires {
+            if let Atom::Permission(share, path) = *atom {
+                let one = (share == Atoms::Chain, path);
+                asked.extend(Some(one).filter(|one| !asked.contains(one)));
             }
         }
-        let share = |&path: &Path<'a>| Permission {
+        let paths = asked.iter().filter(|(chain, _)| !chain);
+        let paths: Vec<Path> = paths.map(|&(_, path)| path).collect();
+        let share = |&(chain, path): &(bool, Path<'a>)| Permission {
             path,
-            share: self.share(block, path, &paths),
+            share: match chain {
+                true => Share::Chain,
+                false => self.share(block, path, &paths),
+            },
         };
-        paths.iter().map(share).collect()
+        asked.iter().map(share).collect()
     }
 
     fn share(&self, block: usize, path: Path<'a>, paths: &[Path<'a>]) -> Share<Path<'a>> {
@@ -170,14 +199,36 @@ impl<'s, 'a> Contracts<'s, 'a> {
     }
 
     /// Does `ensures` give as many halves back, by the field's own name or an equal
-    /// one?
+    /// one? A chain may come back with other cards, where its links are written.
     pub fn back(&self, block: usize, handed: Permission<'a>) -> bool {
         let ensures = &self.script.program.blocks[block].ensures;
         let equal = equal_to(ensures, self.same(block, handed.path.var));
+        if handed.share == Share::Chain {
+            return ensures.iter().any(|atom| match *atom {
+                Atom::Permission(Atoms::Chain, path) => {
+                    path.field == handed.path.field && equal.contains(&Expr::Var(path.var))
+                }
+                _ => false,
+            });
+        }
         let wanted = match handed.share {
             Share::Either(other) if equal.contains(&Expr::Var(other.var)) => Atoms::Acc.halves(),
             share => share.halves(),
         };
         halves(ensures, handed.path.field, &equal) >= wanted
     }
+}
+
+/// Does a line of the text have to do with chains?
+pub fn has_chains(script: &Script) -> bool {
+    let chain = |atom: &Atom| matches!(atom, Atom::Permission(Atoms::Chain, _));
+    let mut contracts = script.program.blocks.iter();
+    let mut lines = script.program.statements.iter();
+    contracts.any(|block| block.requires.iter().chain(&block.ensures).any(chain))
+        || lines.any(|line| match &line.action {
+            Action::Open(_) | Action::Shut(_) => true,
+            action => action
+                .formula()
+                .is_some_and(|formula| formula.iter().any(chain)),
+        })
 }

@@ -3,7 +3,7 @@
 
 use super::handed::{Contracts, Permission, Share};
 use explain::script::{shown, Script};
-use model::names::{Action, Expr, Statement, Var, THIS};
+use model::names::{Action, Expr, Path, Statement, THIS};
 
 /// A field that a method is handed.
 pub struct Handed {
@@ -12,6 +12,8 @@ pub struct Handed {
     /// Does `ensures` give as many halves back, by its own name or an equal one?
     /// What it gives by another name may be the same card.
     pub back: bool,
+    /// Does `ensures` give a chain by its name, which may have other cards?
+    pub perhaps: bool,
     /// Can a line of the method, or of one that it calls, write it?
     pub written: bool,
 }
@@ -38,10 +40,10 @@ pub struct Row {
     pub callers: Vec<(String, u32)>,
 }
 
-/// A write to a field of a variable, by a `set` or by a method that is called.
+/// A write to a field of a variable, by a `set` or by a method that is called, or to
+/// one of a chain.
 struct Write<'a> {
-    var: Var,
-    field: &'a [u8],
+    to: Permission<'a>,
     /// The place of its statement.
     place: usize,
     line: u32,
@@ -98,8 +100,10 @@ impl<'s, 'a> Blocks<'s, 'a> {
         let line = statement.line;
         match statement.action {
             Action::Set(path, _) => vec![Write {
-                var: path.var,
-                field: path.field,
+                to: Permission {
+                    path,
+                    share: Share::Whole,
+                },
                 place,
                 line,
                 by: None,
@@ -112,12 +116,17 @@ impl<'s, 'a> Blocks<'s, 'a> {
                     **altered && !(two && matches!(handed.share, Share::Either(_)))
                 });
                 let write = written.map(|(handed, _)| Write {
-                    var: if handed.path.var == THIS {
-                        call.y
-                    } else {
-                        call.z
+                    to: Permission {
+                        path: Path {
+                            var: if handed.path.var == THIS {
+                                call.y
+                            } else {
+                                call.z
+                            },
+                            ..handed.path
+                        },
+                        ..*handed
                     },
-                    field: handed.path.field,
                     place,
                     line,
                     by: Some(call.method),
@@ -131,33 +140,66 @@ impl<'s, 'a> Blocks<'s, 'a> {
     /// May a write hit a field that its block is handed? One of which it has a half
     /// keeps its value. The names of `this` and of the parameter stay; other
     /// variables may be either, unless the checker knows better.
-    fn may_hit(&self, block: usize, write: &Write, at: usize) -> bool {
-        let Permission { path, share } = self.handed[block][at];
-        if path.field != write.field || share == Share::Half {
+    fn may_hit(&self, block: usize, write: &Write<'a>, at: usize) -> bool {
+        let handed = self.handed[block][at];
+        let Permission { path, share } = handed;
+        let Path { var, field, .. } = write.to.path;
+        let alike = self.contracts.alike(block, path.var, var);
+        if path.field != field || share == Share::Half || !alike {
             return false;
         }
+        if [share, write.to.share].contains(&Share::Chain) {
+            // What stands beside the other before the line has no card of it.
+            let (one, other) = (write.to.atom(), handed.atom());
+            return !self.contracts.beside(write.place, one, other);
+        }
         let same = self.contracts.same(block, path.var);
-        if same.contains(&Expr::Var(write.var)) {
+        if same.contains(&Expr::Var(var)) {
             return true;
         }
         let mut others = self.handed[block].iter();
         let apart = others.any(|other| {
-            (other.path.var, other.path.field) == (write.var, write.field)
-                && share.apart(&other.share)
+            (other.path.var, other.path.field) == (var, field) && share.apart(&other.share)
         });
-        let alike = self.contracts.alike(block, path.var, write.var);
-        alike && !apart && !self.contracts.differ(write.place, path.var, write.var)
+        !apart && !self.contracts.differ(write.place, path.var, var)
+    }
+
+    /// A path, or the atom of a chain, in the block's names.
+    fn told(&self, block: usize, its: &Permission<'a>) -> String {
+        let names = self.script.names(block);
+        match its.share {
+            Share::Chain => names.atom(its.atom()),
+            _ => names.expr(Expr::Path(its.path)),
+        }
+    }
+
+    /// What a block is handed: how much of it, whether it comes back, and whether it
+    /// may be written.
+    fn handed_to(&self, block: usize, its: Permission<'a>, written: bool) -> Handed {
+        let perhaps = self.contracts.back(block, its);
+        let names = self.script.names(block);
+        Handed {
+            share: match its.share {
+                Share::Whole => Share::Whole,
+                Share::Half => Share::Half,
+                Share::Either(other) => Share::Either(names.expr(Expr::Path(other))),
+                Share::Chain => Share::Chain,
+            },
+            path: self.told(block, &its),
+            back: perhaps && !(written && its.share == Share::Chain),
+            perhaps,
+            written,
+        }
     }
 
     fn row(&self, block: usize) -> Row {
-        let names = self.script.names(block);
-        let path = |var, field: &[u8]| format!("{}.{}", names.var(var), shown(field));
+        let header = self.script.program.blocks[block].header;
         let handed = self.handed[block].iter().zip(&self.altered[block]);
         let mut written: Vec<Written> = Vec::new();
         for write in self.writes(block) {
             let name = |method| block_name(self.script, method);
             let write = Written {
-                path: path(write.var, write.field),
+                path: self.told(block, &write.to),
                 line: write.line,
                 by: write.by.map(name),
             };
@@ -166,22 +208,10 @@ impl<'s, 'a> Blocks<'s, 'a> {
             }
         }
         Row {
-            method: names
-                .block
-                .header
-                .map(|header| (shown(header.name), shown(header.class))),
+            method: header.map(|header| (shown(header.name), shown(header.class))),
             line: self.script.block_line(block),
             handed: handed
-                .map(|(&its, &written)| Handed {
-                    share: match its.share {
-                        Share::Whole => Share::Whole,
-                        Share::Half => Share::Half,
-                        Share::Either(other) => Share::Either(path(other.var, other.field)),
-                    },
-                    path: path(its.path.var, its.path.field),
-                    back: self.contracts.back(block, its),
-                    written,
-                })
+                .map(|(&its, &written)| self.handed_to(block, its, written))
                 .collect(),
             written,
             makes: makes(self.script, block),

@@ -14,6 +14,7 @@ mod index;
 mod methods;
 mod object;
 mod page;
+mod proved;
 mod reasons;
 mod said;
 mod sections;

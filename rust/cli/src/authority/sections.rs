@@ -6,6 +6,7 @@ use super::claims::{Theorem, ASSUMED};
 use super::findings::Findings;
 use super::html::{cell, escaped, table};
 use super::identity::{LEVEL, LIBRARY, LOGIC, VERSION};
+use super::proved;
 use super::said::{html, Piece};
 use super::source::{leg_id, method_id, reason_id, stop_id};
 use super::stops;
@@ -115,7 +116,7 @@ pub fn alters(findings: &Findings, prefix: &str) -> String {
     let rows: String = rows.collect();
     let mut headings = vec!["method".to_string()];
     headings.extend(COLUMNS.iter().map(|heading| {
-        let basis = match answers::proved(findings, heading) {
+        let basis = match proved::of_column(findings, heading) {
             Some(proved) => format!("proved, {}: {}", proved.says, proved.theorem.name),
             None => "read off the text".to_string(),
         };
@@ -123,7 +124,7 @@ pub fn alters(findings: &Findings, prefix: &str) -> String {
     }));
     if !rows.is_empty() {
         inner.push_str(&table("stacked methods", &headings, &rows));
-        let note = coded(&answers::proved_of_methods());
+        let note = coded(&proved::of_methods());
         inner.push_str(&format!("<p class=\"note\">{note}</p>\n"));
     }
     let question = "1. Can it alter a card that it was not handed?";

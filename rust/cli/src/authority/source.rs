@@ -45,7 +45,7 @@ fn mark(line: u32, words: impl Into<String>, row: impl Into<String>) -> Mark {
 /// What a method is handed: after the paths how much of them.
 fn handed(row: &Row) -> Vec<(&'static str, String)> {
     let share = |share: &Share<String>| match share {
-        Share::Whole => "",
+        Share::Whole | Share::Chain => "",
         Share::Half => ", for reading",
         Share::Either(_) => ", for reading, or whole if of one card",
     };

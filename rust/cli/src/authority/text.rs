@@ -5,6 +5,7 @@ use super::claims::ASSUMED;
 use super::findings::Findings;
 use super::identity::{LEVEL, LIBRARY, LOGIC, VERSION};
 use super::index::Entry;
+use super::proved;
 use super::said::plain;
 use super::stops;
 use explain::cause::Cause;
@@ -90,10 +91,14 @@ fn alters(out: &mut String, findings: &Findings) {
     if findings.methods.is_empty() {
         return;
     }
-    let proof = |column: &str| answers::proved(findings, column);
+    let proof = |column: &str| proved::of_column(findings, column);
     for (column, proved) in COLUMNS.iter().filter_map(|one| Some((one, proof(one)?))) {
         let (says, name) = (proved.says, proved.theorem.name);
         row(out, "proved", &format!("`{column}` is {says}: {name}"));
+    }
+    if let Some(proved) = proved::of_chains(findings) {
+        let (says, name) = (proved.says, proved.theorem.name);
+        row(out, "proved", &format!("{says}: {name}"));
     }
     let read: Vec<&str> = COLUMNS
         .into_iter()

@@ -235,7 +235,7 @@ fn role(fields: &[&str], at: usize) -> Role {
         };
     }
     match (shape.word, at, shape.operands[at - 1].1) {
-        ("set", 2, _) => Role::Field(before(1)),
+        ("set" | "shut", 2, _) | ("open", 3, _) => Role::Field(before(1)),
         ("call", 3, _) => Role::Method(before(1)),
         ("new", 2, _) => Role::Class,
         (_, _, Operand::Name) => Role::Free,

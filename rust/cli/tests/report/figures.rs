@@ -198,18 +198,18 @@ fn method_is(row: &Element, method: &Json) {
     let lines = parts.iter().chain([method]).map(|one| int(one, "line"));
     assert_eq!(lines_of(row), lines.collect());
     let cells = cells(row);
-    assert_eq!(cells[0], handed(method, "half", "the same"));
-    assert_eq!(cells[1], handed(method, "whole", "another"));
+    assert_eq!(cells[0], handed(method, &["half"], "the same"));
+    assert_eq!(cells[1], handed(method, &["whole", "chain"], "another"));
 }
 
-/// The paths that a method is handed but for those of a share; those of which
+/// The paths that a method is handed but for those of some shares; those of which
 /// another path may have the other half are of either.
-fn handed(method: &Json, but: &str, is: &str) -> String {
+fn handed(method: &Json, but: &[&str], is: &str) -> String {
     let paths = list(method, "handed").iter().filter_map(|one| {
         let other = one.get("other").and_then(Json::text);
         match (text(one, "path"), other) {
             (path, Some(other)) => Some(format!("{path} (if {other} is {is})")),
-            (path, None) => (text(one, "share") != but).then(|| path.to_string()),
+            (path, None) => (!but.contains(&text(one, "share"))).then(|| path.to_string()),
         }
     });
     let paths: Vec<String> = paths.collect();

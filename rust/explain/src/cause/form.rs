@@ -93,7 +93,8 @@ fn atom_forms() -> String {
     listed(&ATOM_SHAPES.iter().map(form).collect::<Vec<_>>(), "or")
 }
 
-/// A path where `let`, `acc` or `read` wants a variable: how the line is written.
+/// A path where `let`, `open`, `shut` or a permission wants a variable: how the line
+/// is written.
 fn path_help(why: Malformed, all: &[(usize, &[u8])], at: usize) -> Option<String> {
     let path = shown(all.get(at)?.1);
     let (x, f) = path
@@ -103,6 +104,8 @@ fn path_help(why: Malformed, all: &[(usize, &[u8])], at: usize) -> Option<String
         (b"let", b"let") => Some(format!(
             "a field is written by `set {x} {f} k`, with a variable k"
         )),
+        (b"shut", b"shut") => Some(format!("write `shut {x} {f}`")),
+        (b"open", _) if at == 2 => Some(format!("write `open {} {x} {f}`", shown(all[1].1))),
         (_, word) => Share::named(word).map(|share| format!("write `{} {x} {f}`", share.word())),
     }
 }

@@ -22,7 +22,7 @@ pub enum Short {
 
 /// None if nothing of the path is listed, or only whole permissions are asked for.
 pub fn short(unshown: &Unshown) -> Option<Short> {
-    let Atom::Permission(_, path) = unshown.wanted else {
+    let Atom::Permission(Share::Acc | Share::Read, path) = unshown.wanted else {
         return None;
     };
     let (at, state) = (unshown.place?, &unshown.asked.state);
@@ -46,7 +46,9 @@ pub fn short(unshown: &Unshown) -> Option<Short> {
 fn taken(unshown: &Unshown, places: &[usize], at: usize) -> Option<Short> {
     let state = &unshown.asked.state;
     let takes = |atom: &&Atom| match **atom {
-        Atom::Permission(_, path) => state.listed(path).any(|place| places.contains(&place)),
+        Atom::Permission(Share::Acc | Share::Read, path) => {
+            state.listed(path).any(|place| places.contains(&place))
+        }
         _ => false,
     };
     let halves = |atom: &Atom| match atom {
@@ -129,7 +131,7 @@ pub fn may_be_one<'a>(names: &Names, state: &State<'a>, wanted: Atom<'a>) -> Opt
     let of = |var| {
         let equal = state.equals(Term::Var(var));
         let held = state.permissions.iter();
-        held.filter(move |held| equal.contains(&Term::Var(held.var)))
+        held.filter(move |held| held.share.lists_path() && equal.contains(&Term::Var(held.var)))
     };
     let mut pairs = of(left).flat_map(|one| of(right).map(move |other| (one, other)));
     let (one, other) =

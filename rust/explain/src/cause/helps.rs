@@ -6,6 +6,7 @@ use crate::script::{shown, Names};
 use model::checker::Term;
 use model::names::{Action, Atom, Call, Expr, Path, Type, Var, FIRST_LOCAL, PARAM, RESULT, THIS};
 use model::number::DONE;
+use model::text::Share;
 
 /// What may help, where that is to be seen.
 pub fn help(unshown: &Unshown, steps: &[Step], lost_at: Option<usize>) -> Option<String> {
@@ -76,6 +77,7 @@ fn never_said(unshown: &Unshown, steps: &[Step]) -> Option<String> {
     let block = unshown.script.block_of(unshown.asked.place);
     let (requires, _) = unshown.script.contract_lines(block);
     match unshown.wanted {
+        Atom::Permission(Share::Chain, path) if !matches!(path.var, THIS | PARAM) => None,
         Atom::Permission(
             _,
             Path {

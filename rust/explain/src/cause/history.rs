@@ -60,6 +60,7 @@ impl Trail {
         match &statement.action {
             Action::Let(x, _) => self.vars[depth - 1][*x] = at,
             Action::Compute(compute) => self.vars[depth - 1][compute.x] = at,
+            Action::Open(open) => self.vars[depth - 1][open.y] = at,
             Action::New(x, _) => {
                 self.vars[depth - 1][*x] = at;
                 self.fields.resize(machine.heap.len(), at);
@@ -111,7 +112,7 @@ impl Trail {
     }
 
     /// "line 9 (step 4): `let p c.prev`".
-    fn told(script: &Script, at: At) -> String {
+    pub fn told(script: &Script, at: At) -> String {
         let line = quoted(script.text, at.line);
         format!("line {} (step {}): `{line}`", at.line, at.step)
     }
@@ -150,7 +151,7 @@ impl Trail {
         }
     }
 
-    /// Where the permission to a field went, or who has it.
+    /// Where the permission to a path went, or who has it.
     pub fn of_permission(
         &self,
         script: &Script,
@@ -160,33 +161,55 @@ impl Trail {
         path: Path,
     ) -> Option<String> {
         let place = location(&machine.objects, values, path)?;
-        let shown = names.expr(Expr::Path(path));
+        let shown = format!("`{}`", names.expr(Expr::Path(path)));
+        self.of_location(script, machine, place, &shown)
+    }
+
+    /// The same of a location, with what messages call it.
+    pub fn of_location(
+        &self,
+        script: &Script,
+        machine: &Machine,
+        place: Location,
+        shown: &str,
+    ) -> Option<String> {
         if let Some((at, went)) = self.went.get(place).copied().flatten() {
-            let told = Trail::told(script, at);
-            return Some(match went {
-                Went::Called(method) => {
-                    let title = script.names(method).title();
-                    format!("the permission to `{shown}` went to {title} at {told}")
-                }
-                Went::Released => format!("the permission to `{shown}` was released at {told}"),
-                Went::Kept(block) => {
-                    let title = script.names(block).title();
-                    let (_, ensures) = script.contract_lines(block);
-                    format!(
-                        "{title} ended at {told}, and its `ensures` (line {ensures}) did not give \
-                         the permission to `{shown}` back"
-                    )
-                }
-            });
+            return Some(went_told(script, at, went, shown));
         }
         let holder = machine.holders(place).next();
         holder.map(|(frame, halves)| {
             let title = script.names(machine.frames[frame].block).title();
             match halves {
-                1 => format!("{title} holds a half of `{shown}`"),
-                _ => format!("{title} has the permission to `{shown}`"),
+                1 => format!("{title} holds a half of {shown}"),
+                _ => format!("{title} has the permission to {shown}"),
             }
         })
+    }
+
+    /// The last step that wrote one of some fields.
+    pub fn written_last(&self, places: impl Iterator<Item = Location>) -> Option<At> {
+        let written = places.filter_map(|place| self.fields.get(place).copied());
+        written.max_by_key(|at| at.step)
+    }
+}
+
+/// How a permission left a block, in words.
+fn went_told(script: &Script, at: At, went: Went, shown: &str) -> String {
+    let told = Trail::told(script, at);
+    match went {
+        Went::Called(method) => {
+            let title = script.names(method).title();
+            format!("the permission to {shown} went to {title} at {told}")
+        }
+        Went::Released => format!("the permission to {shown} was released at {told}"),
+        Went::Kept(block) => {
+            let title = script.names(block).title();
+            let (_, ensures) = script.contract_lines(block);
+            format!(
+                "{title} ended at {told}, and its `ensures` (line {ensures}) did not give the \
+                 permission to {shown} back"
+            )
+        }
     }
 }
 

@@ -4,6 +4,7 @@
 
 mod bounds;
 mod bytes;
+pub(crate) mod chains;
 mod form;
 mod half_helps;
 pub(crate) mod halves;
@@ -13,6 +14,7 @@ mod names;
 mod places;
 pub(crate) mod route;
 pub(crate) mod rules;
+mod stopped_chains;
 mod stopped_halves;
 mod stops;
 

@@ -113,6 +113,7 @@ pub fn fault(text: &[u8], number: u32) -> Option<Cause> {
             .mark(name_mark(name))
         }
         Fault::NoInt(name) => no_int(&look, name).mark(name_mark(name)),
+        Fault::NoLink(x, field, kind) => no_link(&look, x, field, kind).mark(name_mark(field)),
         Fault::Assigned(name) => assigned(&look, name).mark(name_mark(name)),
         Fault::Same(name) => same(&look, name).mark(name_mark(name)),
         _ => return None,
@@ -388,8 +389,37 @@ fn assigned(look: &Look, name: Name) -> Cause {
     }
 }
 
+/// The field of a chain that does not lead to a card of the same class.
+fn no_link(look: &Look, x: Name, field: Name, kind: Type) -> Cause {
+    let own = look.variable_kind(x);
+    let class = own.and_then(|kind| match kind {
+        Type::Class(class) => look.class(class),
+        Type::Int => None,
+    });
+    let links = class.map_or(&[][..], |class| &class.fields).iter();
+    let links: Vec<String> = links
+        .filter(|field| Some(field.kind) == own)
+        .map(|field| shown(field.name))
+        .collect();
+    let class = class.map_or(String::new(), |class| shown(class.name));
+    let (x, field, kind) = (shown(x), shown(field), kind_shown(Kind::Of(kind)));
+    let cause = Cause::new(format!(
+        "`{x}.{field}` is {kind}; a chain goes by a field with the class of `{x}` as its type"
+    ));
+    match links.is_empty() {
+        true => cause.note(format!("class {class} has no such field")),
+        false => cause.note(format!("class {class} has {}", listed(&links, "and"))),
+    }
+}
+
 fn same(look: &Look, name: Name) -> Cause {
     let name_shown = shown(name);
+    if matches!(look.line(), Some(Line::Open(..))) {
+        return Cause::new(format!(
+            "`{name_shown}` takes the next card, and is the card that is opened too"
+        ))
+        .help("take the next card in another variable");
+    }
     let role = match look.line() {
         Some(Line::Call(_, y, _, _)) if *y == name => "the receiver",
         _ => "the argument",
@@ -417,7 +447,7 @@ pub fn unframed(text: &[u8], number: u32) -> Option<Cause> {
     let look = Look::at(text, number)?;
     let (atoms, conditions) = framed_atoms(look.line()?)?;
     let (atom, x, field) = model::framing::unframed_in(look.line()?)?;
-    let [acc, half] = text::Share::ALL.map(|share| permission(share, x, field));
+    let [acc, half] = text::Share::OF_PATHS.map(|share| permission(share, x, field));
     let path = format!("{}.{}", shown(x), shown(field));
     let condition = atom < conditions;
     let said = match condition {
@@ -433,23 +463,41 @@ pub fn unframed(text: &[u8], number: u32) -> Option<Cause> {
         true => &atoms[conditions..],
         false => &atoms[conditions..atom],
     };
-    let other = serving.iter().find_map(|atom| match atom {
-        text::Atom::Permission(share, y, f) if *f == field && *y != x => Some(format!(
+    let mut others = serving.iter().filter_map(|atom| of_field(atom, field));
+    let other = others.find(|&(_, y)| y != x).map(|(share, y)| {
+        format!(
             "`{}` does not count for `{path}`, also if the two are one card: it goes by the names \
              as written",
-            permission(*share, y, field)
-        )),
-        _ => None,
+            permission(share, y, field)
+        )
     });
-    let later = atoms[atom..].iter().find_map(|atom| match atom {
-        text::Atom::Permission(share, y, f) if (*y, *f) == (x, field) => Some(*share),
-        _ => None,
-    });
+    let cause = cause.or_note(in_chain(&atoms, x, field));
+    let mut later = atoms[atom..]
+        .iter()
+        .filter_map(|atom| of_field(atom, field));
+    let later = later.find(|&(_, y)| y == x).map(|(share, _)| share);
     Some(cause.or_note(other).help(match later {
         _ if condition => format!("write `{acc}` or `{half}` after the condition"),
         Some(share) => format!("move `{}` before it", permission(share, x, field)),
         None => format!("write `{acc}` or `{half}` before it"),
     }))
+}
+
+/// A chain among the atoms that the path is in, which does not count.
+fn in_chain(atoms: &[text::Atom], x: Name, field: Name) -> Option<String> {
+    let chain = text::Atom::Permission(text::Share::Chain, x, field);
+    atoms.contains(&chain).then(|| {
+        let chain = permission(text::Share::Chain, x, field);
+        format!("`{chain}` does not count: a link of a chain is read after `open`, in the body")
+    })
+}
+
+/// The share and the variable of a permission to a path of the field.
+fn of_field<'a>(atom: &text::Atom<'a>, field: Name) -> Option<(text::Share, Name<'a>)> {
+    match *atom {
+        text::Atom::Permission(share, y, f) if share.lists_path() && f == field => Some((share, y)),
+        _ => None,
+    }
 }
 
 /// `acc x f` or `read x f`.

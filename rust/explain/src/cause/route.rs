@@ -4,6 +4,7 @@
 use crate::script::{quoted, shown, Names, Script};
 use model::checker::{Fact, State, Term};
 use model::names::{Action, Atom, Expr, Statement, Var};
+use model::text::Share;
 use model::watch::Record;
 
 /// One statement of the way, with the states before and after it.
@@ -104,6 +105,10 @@ pub fn told(script: &Script, place: usize, atom: Atom) -> String {
     format!("{held} up to line {}: `{line}`, {why}", statement.line)
 }
 
+fn another_value(names: &Names, var: Var) -> String {
+    format!("which gives `{}` another value", names.var(var))
+}
+
 /// How a statement makes what was known go.
 pub fn reason(script: &Script, names: &Names, action: &Action, atom: Atom) -> String {
     match action {
@@ -112,7 +117,7 @@ pub fn reason(script: &Script, names: &Names, action: &Action, atom: Atom) -> St
             let header = script.program.blocks[call.method].header;
             let method = header.map_or(String::new(), |header| shown(header.name));
             match (names_var(atom, call.x), atom) {
-                (true, _) => format!("which gives `{}` another value", names.var(call.x)),
+                (true, _) => another_value(names, call.x),
                 (_, Atom::Permission(..)) => {
                     format!(
                         "and the `ensures` of `{method}` (line {ensures}) does not give it back"
@@ -121,9 +126,13 @@ pub fn reason(script: &Script, names: &Names, action: &Action, atom: Atom) -> St
                 _ => format!("and the `ensures` of `{method}` (line {ensures}) does not say it"),
             }
         }
-        Action::Let(x, _) | Action::New(x, _) => {
-            format!("which gives `{}` another value", names.var(*x))
-        }
+        Action::Let(x, _) | Action::New(x, _) => another_value(names, *x),
+        Action::Open(open) if names_var(atom, open.y) => another_value(names, open.y),
+        Action::Open(_) => "and not shut since".to_string(),
+        Action::Shut(path) => format!(
+            "which makes it a part of `{}`",
+            names.atom(Atom::Permission(Share::Chain, *path))
+        ),
         Action::Compute(compute) => format!(
             "which gives `{}` another value, of which nothing is known",
             names.var(compute.x)
@@ -154,6 +163,7 @@ pub fn assigned<'s, 'a>(
         Action::Let(x, _) | Action::New(x, _) => *x == var,
         Action::Compute(compute) => compute.x == var,
         Action::Call(call) => call.x == var,
+        Action::Open(open) => open.y == var,
         Action::Join(_) | Action::Loop(_) | Action::Again(_) => true,
         _ => false,
     };

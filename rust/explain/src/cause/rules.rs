@@ -1,13 +1,14 @@
 //! Numbers 11 to 14: which atom is not shown, for what, where it went, and what
 //! comes nearest to it.
 
+use super::chains;
 use super::half_helps;
 use super::halves;
 use super::helps::help;
 use super::route::{dropped, lost, route, told, told_fact, Step};
 use super::Cause;
 use crate::script::{field_range, line, listed, shown, Names, Script};
-use model::checker::{State, Term};
+use model::checker::{Permission, State, Term};
 use model::limits;
 use model::names::{Action, Atom, Expr, Path, Statement};
 use model::number::STATE_FULL;
@@ -37,7 +38,14 @@ impl<'s, 'a> Unshown<'s, 'a> {
             _ => None,
         };
         let place = asked.unshown();
+        if let Some(path) = asked.rest {
+            let wanted = chains::rest(script, &asked.state, asked.place, path);
+            return Some(Unshown::wanting(script, asked, wanted));
+        }
         let (wanted, read) = match (asked.read, place) {
+            (Some(expr), _) if asked.purpose == Purpose::Shut => {
+                (Atom::Permission(Share::Acc, bare(expr)?), None)
+            }
             (Some(expr), _) => {
                 let path = bare(expr)?;
                 (Atom::Permission(Share::Read, path), Some(path))
@@ -62,6 +70,17 @@ impl<'s, 'a> Unshown<'s, 'a> {
             wanted,
             read,
         })
+    }
+
+    /// One atom that no formula has.
+    fn wanting(script: &'s Script<'a>, asked: &'s Asked<'a>, wanted: Atom<'a>) -> Self {
+        Unshown {
+            script,
+            asked,
+            place: None,
+            wanted,
+            read: None,
+        }
     }
 
     pub fn names(&self) -> Names<'s, 'a> {
@@ -133,6 +152,9 @@ impl<'s, 'a> Unshown<'s, 'a> {
                 format!("`ensures` (line {line}) promises `{wanted}`, which is {missing} here")
             }
             _ if self.read.is_some() => format!("the line {needs}"),
+            Purpose::Open | Purpose::Shut => {
+                chains::said(self.asked.purpose, &names, self.wanted, missing)
+            }
             _ => format!("`{wanted}` is {missing} here"),
         }
     }
@@ -207,6 +229,8 @@ impl<'s, 'a> Unshown<'s, 'a> {
             (Purpose::Requires, _) => 3..4,
             (Purpose::Ensures | Purpose::RoundEnd, _) => 0..1,
             (Purpose::Invariant, _) => 4 + 3 * at..7 + 3 * at,
+            (Purpose::Open, _) => 2..4,
+            (Purpose::Shut, _) => 1..3,
             _ => 1 + 3 * at..4 + 3 * at,
         };
         field_range(bytes, fields)
@@ -230,8 +254,13 @@ impl<'s, 'a> Unshown<'s, 'a> {
         };
         Some(match earlier {
             _ if one == other => format!("`{one}` is asked for twice, and it is held once"),
-            Atom::Permission(_, path) => format!(
-                "`{one}` and `{other}` ask for two cards, and `{}` and `{}` are known to be one",
+            Atom::Permission(share, path) => format!(
+                "`{one}` and `{other}` ask for two {}, and `{}` and `{}` are known to be one",
+                if share == Share::Chain {
+                    "chains"
+                } else {
+                    "cards"
+                },
                 names.var(path.var),
                 names.var(wanted.var)
             ),
@@ -249,20 +278,24 @@ fn lines_between(from: u32, to: u32) -> String {
     }
 }
 
+/// The permissions that are held for the field of another card of the class.
+fn held_like<'a>(names: &Names, state: &State<'a>, share: Share, path: Path<'a>) -> Vec<String> {
+    let like = |held: &&Permission| {
+        held.share.lists_path() == share.lists_path() && held.field == path.field
+    };
+    let held = state.permissions.iter().filter(like);
+    let held = held.filter(|held| names.kind(held.var) == names.kind(path.var));
+    held.map(|held| names.held(held)).collect()
+}
+
 /// What comes nearest to the atom in the state.
 fn nearest<'a>(names: &Names, state: &State<'a>, wanted: Atom<'a>) -> Option<String> {
     match wanted {
         Atom::Permission(_, path) if state.equals(Term::Var(path.var)).contains(&Term::Null) => {
             Some(format!("`{}` is known to be null", names.var(path.var)))
         }
-        Atom::Permission(_, path) => {
-            let held = state.permissions.iter();
-            let held: Vec<String> = held
-                .filter(|held| {
-                    held.field == path.field && names.kind(held.var) == names.kind(path.var)
-                })
-                .map(|held| names.held(held))
-                .collect();
+        Atom::Permission(share, path) => {
+            let held = held_like(names, state, share, path);
             let var = names.var(path.var);
             match held.is_empty() {
                 true if state.permissions.is_empty() => Some("no permission is held here".into()),
@@ -337,6 +370,9 @@ fn full(script: &Script, record: &Record, number: u32) -> Option<Cause> {
         limits::FACTS.min(limits::PERMISSIONS)
     );
     let cause = Cause::new(text).mark(field_range(bytes, 0..usize::MAX));
+    let opens = matches!(script.program.statements[place].action, Action::Open(_));
+    let opens = opens.then_some("`open` takes a chain, and gives a permission, a fact and a chain");
+    let cause = cause.or_note(opens.map(str::to_string));
     // A fact of what is released passes on where something is equal to it.
     Some(match permissions < facts {
         true => cause.help("move a part into a method, whose `ensures` says only what is needed"),
@@ -353,9 +389,13 @@ pub fn cause(text: &[u8], number: u32) -> Option<Cause> {
 
 /// The same, of a check that was written down.
 pub fn cause_in(script: &Script, record: &Record, number: u32) -> Option<Cause> {
-    if record.refusal?.number == STATE_FULL {
-        return full(script, record, number);
+    match record.refusal?.number {
+        STATE_FULL => full(script, record, number),
+        _ => chains::no_rest(script, record, number).or_else(|| not_shown(script, record, number)),
     }
+}
+
+fn not_shown(script: &Script, record: &Record, number: u32) -> Option<Cause> {
     let asked = record.asked.as_ref()?;
     let unshown = Unshown::of(script, asked)?;
     let bytes = line(script.text, number)?;
@@ -369,6 +409,9 @@ pub fn cause_in(script: &Script, record: &Record, number: u32) -> Option<Cause> 
     }
     let names = unshown.names();
     let steps = route(script, record, unshown.target());
+    if let Some(cause) = chains::broken(&cause, &unshown, &steps) {
+        return Some(cause);
+    }
     let lost_at = lost(&steps, unshown.wanted);
     let cause = match lost_at {
         Some(place) => cause.note(told(script, place, unshown.wanted)),
@@ -384,6 +427,7 @@ pub fn cause_in(script: &Script, record: &Record, number: u32) -> Option<Cause> 
         },
     };
     let cause = cause.or_note(nearest(&names, &asked.state, unshown.wanted));
+    let cause = cause.or_note(chains::inside(&names, &asked.state, unshown.wanted));
     let cause = cause.or_note(halves::may_be_one(&names, &asked.state, unshown.wanted));
     let wanted = half_helps::offered(&unshown, &steps, lost_at);
     let unshown = Unshown { wanted, ..unshown };

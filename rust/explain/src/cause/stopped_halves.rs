@@ -3,7 +3,7 @@
 use super::Cause;
 use crate::script::{quoted, Names, Script};
 use model::machine::{Machine, Step};
-use model::names::Expr;
+use model::names::{Action, Expr};
 use model::watch::{Halt, Missing};
 
 /// What a formula of a run lacks.
@@ -18,12 +18,16 @@ pub fn lack(missing: Option<Missing>) -> &'static str {
 }
 
 /// "main holds a half of `c.tag`, and `set` needs both".
-pub fn half_written(names: &Names, halt: Halt) -> Option<String> {
+pub fn half_written(names: &Names, action: &Action, halt: Halt) -> Option<String> {
     let path = names.expr(Expr::Path(halt.path?));
+    let word = match action {
+        Action::Shut(_) => "shut",
+        _ => "set",
+    };
     let half = halt.missing.is_some_and(|missing| missing.held == 1);
     half.then(|| {
         format!(
-            "{} holds a half of `{path}`, and `set` needs both",
+            "{} holds a half of `{path}`, and `{word}` needs both",
             names.title()
         )
     })

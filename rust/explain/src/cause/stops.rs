@@ -1,6 +1,7 @@
 //! Why a run stopped, and the calls that are open then.
 
 use super::history::{open_loops, same_card, Trail};
+use super::stopped_chains::{Walk, NO_RING};
 use super::stopped_halves::{half_written, lack, with_other};
 use super::Cause;
 use crate::rounds::Open;
@@ -8,7 +9,7 @@ use crate::script::{field_range, line, quoted, shown, Names, Script};
 use model::machine::{Machine, Step, Values};
 use model::names::{Action, Atom, Expr, Path, Type};
 use model::number;
-use model::text::Operator;
+use model::text::{Operator, Share};
 use model::watch::{Halt, Tested};
 
 /// Longer runs are not done again to say more about them.
@@ -119,32 +120,48 @@ pub fn stop_cause(text: &[u8], steps: u32, stop: u32) -> Option<Cause> {
         return None;
     }
     let halt = machine.halt?;
-    let history = history(&script, &machine, &trail, halt);
+    let walk = walk_history(&script, &machine, &trail, halt);
+    let history = walk.unwrap_or_else(|| history(&script, &machine, &trail, halt));
     let names = script.names(machine.frame().block);
     let statement = machine.statement();
     let tested = formula(&script, &machine, halt.tested);
     let bytes = line(text, statement.line)?;
     let Some((at, tested)) = halt.atom.zip(tested) else {
-        let said = full(&script, &machine, stop);
-        let said = said.or_else(|| half_written(&names, halt));
+        let said = walk_said(&machine, names, halt).or_else(|| full(&script, &machine, stop));
+        let said = said.or_else(|| half_written(&names, &statement.action, halt));
         let said = said.or_else(|| followed(&names, &statement.action, halt.path, stop));
         let said = said.or_else(|| overflow(&names, &machine));
         let looping = matches!(statement.action, Action::Loop(_));
         let mark = field_range(bytes, 1..4).filter(|_| looping);
-        let cause = said.map(|said| Cause::new(said).mark(mark));
+        let cause = said.map(|said| Cause::new(said).mark(mark).or_help(ring_help(halt)));
         let cause = cause.map(|cause| with_other(cause, &script, &machine, halt));
         return cause.map(|cause| history.into_iter().fold(cause, Cause::note));
     };
-    let said = false_atom(&machine, &names, &tested, *tested.atoms.get(at)?, halt)?;
+    let said = false_atom(&machine, &names, &tested, at, halt)?;
     let first = match halt.tested {
         Tested::Line => Some(at),
         Tested::Invariant => Some(at + 1),
         _ => None,
     };
     let mark = first.and_then(|at| field_range(bytes, 1 + 3 * at..4 + 3 * at));
-    let cause = Cause::new(said).mark(mark);
+    let cause = Cause::new(said).mark(mark).or_help(ring_help(halt));
     let cause = with_other(cause, &script, &machine, halt);
     Some(history.into_iter().fold(cause, Cause::note))
+}
+
+/// What led to the stop of a walk over a chain; none if no walk was stopped.
+fn walk_history(
+    script: &Script,
+    machine: &Machine,
+    trail: &Trail,
+    halt: Halt,
+) -> Option<Vec<String>> {
+    let frame = machine.frame();
+    let tested = formula(script, machine, halt.tested);
+    let tested = tested.map(|tested| (tested.names, tested.values));
+    let (names, values) = tested.unwrap_or((script.names(frame.block), frame.values));
+    let walk = Walk::of(machine, names, &values, &[], halt)?;
+    Some(walk.history(script, trail, halt).into_iter().collect())
 }
 
 /// What led to the stop: where values came from and permissions went.
@@ -271,6 +288,7 @@ fn reads(script: &Script, opened: &model::names::Loop) -> Option<String> {
             Action::Let(x, _) | Action::New(x, _) => var(*x),
             Action::Compute(compute) => var(compute.x),
             Action::Call(call) => var(call.x),
+            Action::Open(open) => var(open.y),
             Action::Set(path, _) => matches!(side, Expr::Path(read) if read.field == path.field),
             _ => false,
         }) || (calls && matches!(side, Expr::Path(_)))
@@ -328,9 +346,10 @@ fn false_atom(
     machine: &Machine,
     names: &Names,
     tested: &Formula,
-    atom: Atom,
+    at: usize,
     halt: Halt,
 ) -> Option<String> {
+    let atom = *tested.atoms.get(at)?;
     let shown = format!("`{}`{}", tested.names.atom(atom), tested.of);
     Some(match (halt.number, atom) {
         (number::FORMULA_FALSE, Atom::Eq(left, right) | Atom::Ne(left, right)) => {
@@ -340,6 +359,11 @@ fn false_atom(
                 .collect();
             format!("{shown} is false: {}", sides.join(", "))
         }
+        (_, Atom::Permission(Share::Chain, _)) => {
+            let earlier = &tested.atoms[..at];
+            let walk = Walk::of(machine, tested.names, &tested.values, earlier, halt)?;
+            format!("{shown} {}", walk.said(halt, &names.title()))
+        }
         (number::PERMISSION_MISSING, _) => {
             format!("{shown}: {} {}", names.title(), lack(halt.missing))
         }
@@ -348,6 +372,31 @@ fn false_atom(
         }
         _ => return None,
     })
+}
+
+fn ring_help(halt: Halt) -> Option<String> {
+    halt.ring.map(|_| NO_RING.to_string())
+}
+
+/// The walk of an `open` or `shut`.
+fn walk_said(machine: &Machine, names: Names, halt: Halt) -> Option<String> {
+    let values = machine.frame().values;
+    let walk = Walk::of(machine, names, &values, &[], halt)?;
+    let taken = match machine.statement().action {
+        Action::Open(open) => {
+            let chain = Atom::Permission(Share::Chain, open.path);
+            format!("`open` takes `{}`", names.atom(chain))
+        }
+        Action::Shut(path) => {
+            let path = names.expr(Expr::Path(path));
+            format!("`shut` takes the chain from `{path}`")
+        }
+        _ => return None,
+    };
+    Some(format!(
+        "{taken}, which {}",
+        walk.said(halt, &names.title())
+    ))
 }
 
 /// What is full: the heap, or the frames and what they are of.

@@ -2,6 +2,7 @@
 //! begins, has its variables and ends.
 
 use super::edit::Edit;
+use super::fields::ATOM_WORDS;
 use std::collections::BTreeSet;
 
 /// A possible fix: what it does in words, its changes, and how many lines it
@@ -99,7 +100,7 @@ impl Draft {
         for line in self.lines.get(lines).unwrap_or_default() {
             for field in line.iter().skip(1) {
                 let name = field.split('.').next().unwrap_or("");
-                if named(name) && !matches!(name, "acc" | "read" | "eq" | "ne") {
+                if named(name) && !ATOM_WORDS.contains(&name) {
                     found.insert(name.to_string());
                 }
             }

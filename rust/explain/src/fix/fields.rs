@@ -63,7 +63,7 @@ fn words(line: &[String], at: usize) -> Vec<Candidate> {
 }
 
 /// The words that begin an atom.
-pub const ATOM_WORDS: [&str; 4] = ["acc", "read", "eq", "ne"];
+pub const ATOM_WORDS: [&str; 5] = ["acc", "read", "chain", "eq", "ne"];
 
 fn atoms(line: &[String], at: usize, place: usize) -> Vec<Candidate> {
     let mut found = vec![rewritten(at, &without(line, place))];
@@ -86,7 +86,7 @@ fn field(
     let fixed = |field: &str| vec![rewritten(at, &with(line, place, field))];
     match why {
         Malformed::Empty => vec![rewritten(at, &without(line, place))],
-        Malformed::PathForName if permission(&line[place - 1]) => {
+        Malformed::PathForName if permission(&line[place - 1]) || chained(line, place) => {
             let mut split = line.to_vec();
             let parts: Vec<String> = field.split('.').map(str::to_string).collect();
             split.splice(place..=place, parts);
@@ -114,9 +114,14 @@ fn field(
     }
 }
 
+/// Is it the card of an `open` or `shut`, with its field in one?
+fn chained(line: &[String], place: usize) -> bool {
+    matches!((line[0].as_str(), place), ("shut", 1) | ("open", 2))
+}
+
 /// Does the word begin an atom of a permission?
 fn permission(word: &str) -> bool {
-    matches!(word, "acc" | "read")
+    matches!(word, "acc" | "read" | "chain")
 }
 
 /// A variable of its own, declared at the head of the block, that takes a value

@@ -60,7 +60,7 @@ impl<'a> Refused<'_, 'a> {
         vars.filter(|&var| var >= FIRST_LOCAL).collect()
     }
 
-    fn of_kind(&self, kind: Option<Type>) -> Vec<Var> {
+    pub fn of_kind(&self, kind: Option<Type>) -> Vec<Var> {
         let vars = self.vars().into_iter();
         vars.filter(|&var| self.kind(var) == kind).collect()
     }

@@ -1,6 +1,7 @@
 //! Fixes of a refused text, each tried before it is told: a fix either makes the
 //! text accepted, or removes the refusal and leads to a later one.
 
+mod chains;
 mod draft;
 pub mod edit;
 mod fields;
@@ -89,6 +90,9 @@ fn detail(text: &[u8], answer: Answer) -> Detail {
     };
     let formula = match asked.purpose {
         Purpose::Receiver | Purpose::FirstEnd => 1,
+        Purpose::Shut if asked.read.is_some() => 0,
+        Purpose::Shut if asked.rest.is_some() => 1,
+        Purpose::Open if answer.0 == number::NOT_SHOWN => 1,
         _ => 2,
     };
     let resolved = answer.0 == number::NOT_SHOWN;

@@ -1,6 +1,7 @@
 //! Possible fixes of the numbers 6, 7, 9 and 10: a name that is near, a
 //! declaration that is missing, another type, a variable of its own.
 
+use super::chains;
 use super::draft::{both, delete, insert, named, replace, Candidate, Draft};
 use super::form::rewritten;
 use crate::nearest::nearest;
@@ -29,6 +30,10 @@ pub fn candidates(text: &[u8], draft: &Draft, at: usize) -> Vec<Candidate> {
         Fault::Twice(name) => twice(draft, at, &shown(name)),
         Fault::Assigned(name) => own(draft, at, &shown(name)),
         Fault::Same(name) => result(draft, at, &shown(name)),
+        Fault::NoLink(x, field, _) => {
+            let linked = chains::linked(draft, at, &shown(x), &shown(field));
+            linked.into_iter().chain(types(draft, at)).collect()
+        }
         _ => types(draft, at),
     }
 }
@@ -269,6 +274,12 @@ pub fn framed(text: &[u8], draft: &Draft, at: usize) -> Vec<Candidate> {
     };
     let line = &draft.lines[at];
     let first = 1 + 3 * atom;
+    if line[1..]
+        .chunks(3)
+        .any(|atom| *atom == ["chain".to_string(), shown(x), shown(f)])
+    {
+        return chains::unread(line, at, first);
+    }
     let half = ["read".to_string(), shown(x), shown(f)];
     let acc = match line[first..].chunks(3).any(|atom| *atom == half) {
         true => half,

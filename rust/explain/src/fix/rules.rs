@@ -1,6 +1,7 @@
 //! Possible fixes of the numbers 11 to 13, by what is not shown: an atom in a
 //! contract, `join` or invariant, or a line before the one that needs it.
 
+use super::chains;
 use super::draft::{both, insert, Candidate, Draft};
 use super::edit::Edit;
 use super::form::rewritten;
@@ -40,17 +41,22 @@ pub fn candidates(text: &[u8], draft: &Draft) -> Vec<Candidate> {
         unshown: &unshown,
         draft,
     };
+    if let Some(found) = chains::unclosed(&refused) {
+        return found.into_iter().chain(refused.weaker()).collect();
+    }
     let halves = short(&unshown);
     let mut found = match halves {
         // Both halves are held: no further permission brings them together.
         Some(Short::Apart(_)) => Vec::new(),
         _ => refused.formulas(),
     };
+    found.splice(0..0, chains::first(&refused));
     found.extend(refused.released());
     // A half that is held is not made whole by another card.
     if halves.is_none() {
         found.extend(lines::candidates(&refused));
     }
+    found.extend(chains::last(&refused));
     found.extend(refused.weaker());
     found
 }
@@ -99,6 +105,7 @@ impl<'a> Refused<'_, 'a> {
     /// card that is not null each permission to one of its fields.
     fn ways(&self) -> Vec<Atom<'a>> {
         let mut ways = vec![self.wanted()];
+        ways.extend(chains::ways(self));
         match (self.wanted(), short(self.unshown)) {
             (Atom::Permission(Share::Read, path), _) => {
                 ways.push(Atom::Permission(Share::Acc, path));
@@ -178,12 +185,11 @@ impl<'a> Refused<'_, 'a> {
     }
 
     /// The same, for a line from 0 and an atom as messages show it.
-    fn with_atom(&self, line: usize, atom: &str) -> Option<Candidate> {
+    pub fn with_atom(&self, line: usize, atom: &str) -> Option<Candidate> {
         if let Some(whole) = self.made_whole(line, atom) {
             return Some(whole);
         }
-        let fields = self.draft.lines.get(line)?;
-        let mut fields = fields.clone();
+        let mut fields = self.draft.lines.get(line)?.clone();
         let holds = |fields: &[String], acc: &[String]| {
             fields
                 .get(1..)
@@ -192,6 +198,9 @@ impl<'a> Refused<'_, 'a> {
                 .any(|atom| atom == acc)
         };
         let atom: Vec<String> = atom.split(' ').map(str::to_string).collect();
+        if chains::clashes(&fields, &atom) {
+            return None;
+        }
         for side in &atom[1..] {
             if let Some((x, f)) = side.split_once('.') {
                 let acc = ["acc", x, f].map(str::to_string);
@@ -355,7 +364,7 @@ impl<'a> Refused<'_, 'a> {
         let at = self.here();
         if !matches!(
             self.draft.word(at),
-            "set" | "let" | "call" | "assert" | "release"
+            "set" | "let" | "call" | "assert" | "release" | "open"
         ) {
             return None;
         }

@@ -141,6 +141,7 @@ fn why(asked: &Asked) -> Option<&'static str> {
     let whole = asked.state.first_listed(Share::Acc, path).is_some();
     let half = asked.state.first_listed(Share::Read, path).is_some();
     Some(match (share, asked.purpose) {
+        (Share::Chain, _) => return None,
         _ if !whole && !half => return None,
         (Share::Acc, Purpose::Write) => "`set` with a half",
         (Share::Acc, Purpose::Requires) if !whole => "a call with a half",

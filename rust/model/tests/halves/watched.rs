@@ -33,10 +33,11 @@ fn shares_have_words_and_halves() {
     for (share, word, halves) in [(Acc, "acc", 2), (Read, "read", 1)] {
         assert_eq!((share.word(), share.halves()), (word, halves));
         assert_eq!(Share::named(word.as_bytes()), Some(share));
-        assert_eq!(Share::of(halves), Some(share));
     }
     assert_eq!(Share::named(b"eq"), None);
-    assert_eq!((Share::of(0), Share::of(3)), (None, None));
+    assert_eq!(Acc.less(Read), Some(Some(Read)));
+    assert_eq!((Acc.less(Acc), Read.less(Read)), (Some(None), Some(None)));
+    assert_eq!(Read.less(Acc), None);
 }
 
 #[test]
@@ -46,10 +47,11 @@ fn what_is_listed_and_what_a_formula_leaves() {
     assert_eq!(state.first_listed(Acc, path(PARAM)), None);
     assert_eq!(state.first_listed(Read, path(PARAM)), Some(1));
     let left = |formula: &[Atom<'static>]| state.leaves(formula).map(|left| left[..4].to_vec());
-    assert_eq!(left(&[]), Ok(vec![2, 1, 1, 0]));
-    assert_eq!(left(&[held(Read, THIS)]), Ok(vec![1, 1, 1, 0]));
+    let (whole, half) = (Some(Acc), Some(Read));
+    assert_eq!(left(&[]), Ok(vec![whole, half, half, None]));
+    assert_eq!(left(&[held(Read, THIS)]), Ok(vec![half, half, half, None]));
     let both = [held(Read, THIS), held(Read, PARAM), held(Read, THIS)];
-    assert_eq!(left(&both), Ok(vec![0, 0, 1, 0]));
+    assert_eq!(left(&both), Ok(vec![None, None, half, None]));
     assert_eq!(left(&[held(Acc, PARAM)]), Err(12));
 }
 
@@ -72,7 +74,8 @@ fn short(asked: &Asked) -> (Share, Vec<u8>, Vec<u8>) {
     };
     let halves = |formula| {
         let left = asked.state.leaves(formula).expect("shown so far");
-        asked.state.listed(path).map(|place| left[place]).collect()
+        let halves = |place: usize| left[place].map_or(0, Share::halves);
+        asked.state.listed(path).map(halves).collect()
     };
     (share, halves(&[]), halves(&asked.show[..at]))
 }

@@ -33,12 +33,18 @@ add-drops-entry-2 c = omega arith
 element-copy-out-drops-entry-3 : tie.Need-element-copy-out-drops-entry-3 Inv-loop μ-loop
 element-copy-out-drops-entry-3 c = omega arith
 
+add-drops-entry-3 : tie.Need-add-drops-entry-3 Inv-loop μ-loop
+add-drops-entry-3 c = omega arith
+
+element-copy-out-drops-entry-4 : tie.Need-element-copy-out-drops-entry-4 Inv-loop μ-loop
+element-copy-out-drops-entry-4 c = omega arith
+
 drops-entry-requires : tie.Need-drops-entry-requires Inv-loop μ-loop
-drops-entry-requires c κs = c .before .before .before .before .before .pre
+drops-entry-requires c κs = c .before .before .before .before .before .before .pre
 
 returns : tie.Need-returns Inv-loop μ-loop
 returns c =
-    sym (any-found _ (λ i. i) _ (c .before .before .before .before .before .before .loop .i) (c .before .before .before .before .before .loop-test .taken) (sym (c .before .drops-entry .ensures) ∙ c .if1 .taken))
+    sym (any-found _ (λ i. i) _ (c .before .before .before .before .before .before .before .loop .i) (c .before .before .before .before .before .before .loop-test .taken) (sym (c .before .drops-entry .ensures) ∙ c .if1 .taken))
 
 add-i : tie.Need-add-i Inv-loop μ-loop
 add-i c = omega arith
@@ -48,7 +54,7 @@ loop-less c = omega arith
 
 loop-again : tie.Need-loop-again Inv-loop μ-loop
 loop-again c =
-    (omega arith, any-past _ (λ i. i) _ (c .before .before .before .before .before .before .loop .inv .1) (sym (c .before .drops-entry .ensures) ∙ c .if1 .left))
+    (omega arith, any-past _ (λ i. i) _ (c .before .before .before .before .before .before .before .loop .inv .1) (sym (c .before .drops-entry .ensures) ∙ c .if1 .left))
 
 returns-2 : tie.Need-returns-2 Inv-loop μ-loop
 returns-2 c =
@@ -66,6 +72,8 @@ drops-some-spec =
     element-copy-out-drops-entry-2
     add-drops-entry-2
     element-copy-out-drops-entry-3
+    add-drops-entry-3
+    element-copy-out-drops-entry-4
     drops-entry-requires
     returns
     add-i

@@ -33,12 +33,18 @@ add-path-with-2 c = omega arith
 element-copy-out-path-with-3 : tie.Need-element-copy-out-path-with-3 Inv-loop μ-loop
 element-copy-out-path-with-3 c = omega arith
 
+add-path-with-3 : tie.Need-add-path-with-3 Inv-loop μ-loop
+add-path-with-3 c = omega arith
+
+element-copy-out-path-with-4 : tie.Need-element-copy-out-path-with-4 Inv-loop μ-loop
+element-copy-out-path-with-4 c = omega arith
+
 path-with-requires : tie.Need-path-with-requires Inv-loop μ-loop
 path-with-requires c κs = tt
 
 returns : tie.Need-returns Inv-loop μ-loop
 returns c =
-    sym (any-found _ (λ i. i) _ (c .before .before .before .before .before .before .loop .i) (c .before .before .before .before .before .loop-test .taken) (sym (c .before .path-with .ensures) ∙ c .if1 .taken))
+    sym (any-found _ (λ i. i) _ (c .before .before .before .before .before .before .before .loop .i) (c .before .before .before .before .before .before .loop-test .taken) (sym (c .before .path-with .ensures) ∙ c .if1 .taken))
 
 add-i : tie.Need-add-i Inv-loop μ-loop
 add-i c = omega arith
@@ -48,7 +54,7 @@ loop-less c = omega arith
 
 loop-again : tie.Need-loop-again Inv-loop μ-loop
 loop-again c =
-    (omega arith, any-past _ (λ i. i) _ (c .before .before .before .before .before .before .loop .inv .1) (sym (c .before .path-with .ensures) ∙ c .if1 .left))
+    (omega arith, any-past _ (λ i. i) _ (c .before .before .before .before .before .before .before .loop .inv .1) (sym (c .before .path-with .ensures) ∙ c .if1 .left))
 
 returns-2 : tie.Need-returns-2 Inv-loop μ-loop
 returns-2 c =
@@ -66,6 +72,8 @@ names-with-spec =
     element-copy-out-path-with-2
     add-path-with-2
     element-copy-out-path-with-3
+    add-path-with-3
+    element-copy-out-path-with-4
     path-with-requires
     returns
     add-i

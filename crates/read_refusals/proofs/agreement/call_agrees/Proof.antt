@@ -5,7 +5,7 @@ use Rattle.rules.specs.Grammar.{Call, isStatement, isKind, kindNumber, statemen
 use Rattle.rules.specs.Scope.{operand}
 use Rattle.rules.specs.Names as Rules
 use Rattle.read_refusals.specs.Tests.{sidesIn}
-use Rattle.read_refusals.proofs.Sides.{sides-of}
+use Rattle.read_refusals.proofs.Sides.{by-kind}
 use borrow.Author.Needs.{needs}
 use Rattle.read_refusals.proofs.agreement.call_agrees.Statement.{statement}
 use Rattle.read_refusals.proofs.agreement.call_agrees.Tie as tie
@@ -83,7 +83,7 @@ returns c =
       at-nth-field2 .ensures,
       at-nth-field3 .ensures,
       at-nth-field4 .ensures,
-    ) (sym (sides-of (start .args .text .now)
+    ) (sym (by-kind sidesIn (start .args .text .now)
     (start .args .work .now) (start .args .c) (start .args .from) 11 (Grammar.statement Call) refl))
 
 pub call-agrees-spec : {M : Type 1} → statement M

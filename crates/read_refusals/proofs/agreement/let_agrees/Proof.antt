@@ -5,7 +5,7 @@ use Rattle.rules.specs.Grammar.{Let, isStatement, isKind, kindNumber, statement
 use Rattle.rules.specs.Scope.{operand}
 use Rattle.rules.specs.Names as Rules
 use Rattle.read_refusals.specs.Tests.{sidesIn}
-use Rattle.read_refusals.proofs.Sides.{sides-of}
+use Rattle.read_refusals.proofs.Sides.{by-kind}
 use Rattle.read_types.specs.Types.{typeMeant}
 use borrow.Author.Needs.{needs}
 use Rattle.read_refusals.proofs.agreement.let_agrees.Statement.{statement}
@@ -35,7 +35,7 @@ returns c =
     let at-nth-field = c .before .before .before .before .nth-field in
     let at-variable-type = c .before .before .before .variable-type in
     let at-nth-field2 = c .before .before .nth-field2 in
-    c .agree .ensures ∙ rw (c .before .expr-type .ensures, at-variable-type .ensures, at-nth-field .ensures, at-nth-field2 .ensures) (sym (sides-of (start .args .text .now) (start .args .work .now) (start .args .c) (start .args .from) 9 (Grammar.statement Let) refl))
+    c .agree .ensures ∙ rw (c .before .expr-type .ensures, at-variable-type .ensures, at-nth-field .ensures, at-nth-field2 .ensures) (sym (by-kind sidesIn (start .args .text .now) (start .args .work .now) (start .args .c) (start .args .from) 9 (Grammar.statement Let) refl))
 
 pub let-agrees-spec : {M : Type 1} → statement M
 let-agrees-spec =

@@ -5,7 +5,7 @@ use Rattle.rules.specs.Grammar.{New, isStatement, isKind, kindNumber, statement
 use Rattle.rules.specs.Scope.{operand}
 use Rattle.rules.specs.Names as Rules
 use Rattle.read_refusals.specs.Tests.{sidesIn}
-use Rattle.read_refusals.proofs.Sides.{sides-of}
+use Rattle.read_refusals.proofs.Sides.{by-kind}
 use borrow.Author.Needs.{needs}
 use Rattle.read_refusals.proofs.agreement.new_agrees.Statement.{statement}
 use Rattle.read_refusals.proofs.agreement.new_agrees.Tie as tie
@@ -32,7 +32,7 @@ returns c =
     let at-nth-field = c .before .before .before .before .nth-field in
     let at-variable-type = c .before .before .before .variable-type in
     let at-name-in = c .before .before .name-in in
-    c .same .ensures ∙ rw (at-name-in .ensures, at-variable-type .ensures, at-nth-field .ensures, c .before .nth-field2 .ensures) (sym (sides-of (start .args .text .now) (start .args .work .now) (start .args .c) (start .args .from) 10 (Grammar.statement New) refl))
+    c .same .ensures ∙ rw (at-name-in .ensures, at-variable-type .ensures, at-nth-field .ensures, c .before .nth-field2 .ensures) (sym (by-kind sidesIn (start .args .text .now) (start .args .work .now) (start .args .c) (start .args .from) 10 (Grammar.statement New) refl))
 
 pub new-agrees-spec : {M : Type 1} → statement M
 new-agrees-spec =

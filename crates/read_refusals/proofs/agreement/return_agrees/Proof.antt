@@ -5,7 +5,7 @@ use Rattle.rules.specs.Grammar.{Return, isStatement, isKind, kindNumber, statem
 use Rattle.rules.specs.Scope.{operand}
 use Rattle.rules.specs.Names as Rules
 use Rattle.read_refusals.specs.Tests.{sidesIn}
-use Rattle.read_refusals.proofs.Sides.{sides-of}
+use Rattle.read_refusals.proofs.Sides.{by-kind}
 use Rattle.rules.specs.Base.{bytes}
 use borrow.Author.Needs.{needs}
 use Rattle.read_refusals.proofs.agreement.return_agrees.Statement.{statement}
@@ -32,7 +32,7 @@ returns c =
     let start = c .before .before .before .before .before .before .before in
     let at-nth-field = c .before .before .before .before .nth-field in
     let at-variable-type = c .before .before .before .variable-type in
-    c .same-name .ensures ∙ rw (at-variable-type .ensures, c .before .variable-type2 .ensures, at-nth-field .ensures) (sym (sides-of (start .args .text .now) (start .args .work .now) (start .args .c) (start .args .from) 12 (Grammar.statement Return) refl))
+    c .same-name .ensures ∙ rw (at-variable-type .ensures, c .before .variable-type2 .ensures, at-nth-field .ensures) (sym (by-kind sidesIn (start .args .text .now) (start .args .work .now) (start .args .c) (start .args .from) 12 (Grammar.statement Return) refl))
 
 pub return-agrees-spec : {M : Type 1} → statement M
 return-agrees-spec =

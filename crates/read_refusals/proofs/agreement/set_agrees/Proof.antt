@@ -5,7 +5,7 @@ use Rattle.rules.specs.Grammar.{Set, isStatement, isKind, kindNumber, statement
 use Rattle.rules.specs.Scope.{operand}
 use Rattle.rules.specs.Names as Rules
 use Rattle.read_refusals.specs.Tests.{sidesIn}
-use Rattle.read_refusals.proofs.Sides.{sides-of}
+use Rattle.read_refusals.proofs.Sides.{by-kind}
 use borrow.Author.Needs.{needs}
 use Rattle.read_refusals.proofs.agreement.set_agrees.Statement.{statement}
 use Rattle.read_refusals.proofs.agreement.set_agrees.Tie as tie
@@ -40,7 +40,7 @@ returns c =
     let at-nth-field2 = c .before .before .before .before .nth-field2 in
     let at-field-type = c .before .before .before .field-type in
     let at-nth-field3 = c .before .before .nth-field3 in
-    c .same-name .ensures ∙ rw (at-field-type .ensures, at-variable-type .ensures, c .before .variable-type2 .ensures, at-nth-field .ensures, at-nth-field2 .ensures, at-nth-field3 .ensures) (sym (sides-of (start .args .text .now) (start .args .work .now) (start .args .c) (start .args .from) 8 (Grammar.statement Set) refl))
+    c .same-name .ensures ∙ rw (at-field-type .ensures, at-variable-type .ensures, c .before .variable-type2 .ensures, at-nth-field .ensures, at-nth-field2 .ensures, at-nth-field3 .ensures) (sym (by-kind sidesIn (start .args .text .now) (start .args .work .now) (start .args .c) (start .args .from) 8 (Grammar.statement Set) refl))
 
 pub set-agrees-spec : {M : Type 1} → statement M
 set-agrees-spec =

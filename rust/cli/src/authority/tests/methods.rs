@@ -1,11 +1,12 @@
 //! What the table of methods says is so in every run.
 
 use super::accepted;
-use crate::authority::handed::Share;
-use crate::authority::methods::{self, Row};
+use crate::authority::handed;
+use crate::authority::methods::{self, Handed, Row};
 use explain::script::Script;
-use model::machine::{callee_values, location, Machine, Step};
+use model::machine::{callee_values, location, Machine, Step, Values};
 use model::names::{Action, Atom, Path};
+use model::text::Share;
 
 /// A field that was handed over: its place, its value then, how many halves of it
 /// went, by all names, and how many the caller had.
@@ -16,21 +17,35 @@ struct Field {
     had: u8,
 }
 
-/// An open call: its method, how deep it is, and the field of each path that it
-/// was handed.
+/// An open call: its method, how deep it is, and of each path or chain that it was
+/// handed the fields.
 struct Open {
     block: usize,
     depth: usize,
-    handed: Vec<Field>,
+    handed: Vec<Vec<Field>>,
 }
 
-/// The atoms of a formula that are permissions, with the halves of each.
-fn permissions<'a>(formula: &[Atom<'a>]) -> Vec<(Path<'a>, u8)> {
+/// The atoms of a formula that are permissions.
+fn permissions<'a>(formula: &[Atom<'a>]) -> Vec<(Share, Path<'a>)> {
     let paths = formula.iter().filter_map(|atom| match atom {
-        Atom::Permission(share, path) => Some((*path, share.halves())),
+        Atom::Permission(share, path) => Some((*share, *path)),
         _ => None,
     });
     paths.collect()
+}
+
+/// The places of a permission: that of its path, or those of all links of a chain.
+fn places(machine: &Machine, values: &Values, (share, path): (Share, Path)) -> Vec<usize> {
+    let mut found: Vec<usize> = location(&machine.objects, values, path)
+        .into_iter()
+        .collect();
+    while let Some(&last) = found.last().filter(|_| share == Share::Chain) {
+        let Some(next) = (machine.heap[last] as usize).checked_sub(1) else {
+            break;
+        };
+        found.push(machine.objects[next].first + path.slot);
+    }
+    found
 }
 
 /// The call that the next step does, if it does one.
@@ -40,36 +55,44 @@ fn call(machine: &Machine) -> Option<Open> {
     };
     let values = callee_values(&machine.frame().values, call);
     let requires = permissions(&machine.program.blocks[call.method].requires);
-    let mut paths: Vec<Path> = Vec::new();
-    for (path, _) in &requires {
-        if !paths.contains(path) {
-            paths.push(*path);
-        }
+    let mut asked: Vec<(Share, Path)> = Vec::new();
+    for &(share, path) in &requires {
+        let share = if share == Share::Chain {
+            share
+        } else {
+            Share::Acc
+        };
+        asked.extend(Some((share, path)).filter(|one| !asked.contains(one)));
     }
-    let place = |path: Path| location(&machine.objects, &values, path);
-    let field = |path: Path| {
-        let place_of = place(path)?;
-        let same = requires
-            .iter()
-            .filter(|(other, _)| place(*other) == Some(place_of));
-        Some(Field {
-            place: place_of,
-            value: machine.heap[place_of],
-            went: same.map(|(_, halves)| halves).sum(),
-            had: machine.frame().held.halves(place_of),
-        })
+    let halves = |place: usize| {
+        let takes = |one: &&(Share, Path)| places(machine, &values, **one).contains(&place);
+        let takers = requires.iter().filter(takes);
+        takers.map(|(share, _)| share.halves()).sum()
+    };
+    let field = |place: usize| Field {
+        place,
+        value: machine.heap[place],
+        went: halves(place),
+        had: machine.frame().held.halves(place),
+    };
+    let fields = |one| {
+        places(machine, &values, one)
+            .into_iter()
+            .map(field)
+            .collect()
     };
     Some(Open {
         block: call.method,
         depth: machine.frames.len(),
-        handed: paths.into_iter().filter_map(field).collect(),
+        handed: asked.into_iter().map(fields).collect(),
     })
 }
 
 /// Do as many halves of a field go as its share says?
-fn share_is(share: &Share<String>, went: u8) {
+fn share_is(share: &handed::Share<String>, went: u8) {
+    use handed::Share;
     match share {
-        Share::Whole => assert_eq!(went, 2),
+        Share::Whole | Share::Chain => assert_eq!(went, 2),
         Share::Half => assert_eq!(went, 1),
         Share::Either(_) => assert!((1..=2).contains(&went)),
     }
@@ -81,18 +104,20 @@ fn share_is(share: &Share<String>, went: u8) {
 fn is_kept(open: &Open, rows: &[Row], machine: &Machine, ended: bool) -> usize {
     let handed = &rows[open.block].handed;
     assert_eq!(handed.len(), open.handed.len());
-    for (handed, field) in handed.iter().zip(&open.handed) {
+    let told = handed.iter().zip(&open.handed);
+    let told = told.flat_map(|(handed, fields)| fields.iter().map(move |field| (handed, field)));
+    let told: Vec<(&Handed, &Field)> = told.collect();
+    for (handed, field) in &told {
         share_is(&handed.share, field.went);
         let changed = machine.heap[field.place] != field.value;
         let may = handed.written && field.went == 2;
         assert!(!changed || may, "{} is written", handed.path);
     }
-    for field in open.handed.iter().filter(|_| ended) {
-        let names = handed.iter().zip(&open.handed);
-        let mut names = names.filter(|(_, other)| other.place == field.place);
-        let told = names.all(|(handed, _)| handed.back);
+    for (_, field) in told.iter().filter(|_| ended) {
+        let mut names = told.iter().filter(|(_, other)| other.place == field.place);
+        let back = names.all(|(handed, _)| handed.back);
         let has = machine.frame().held.halves(field.place);
-        assert!(!told || has >= field.had, "halves are lost");
+        assert!(!back || has >= field.had, "halves are lost");
     }
     handed.iter().filter(|handed| !handed.written).count()
 }
@@ -276,4 +301,81 @@ fn halves_of_a_refused_text() {
     let script = Script::of(&text).expect("it is read");
     let rows = methods::rows(&script);
     assert_eq!(told(&rows[1]), "this.n half p.n, p.n half this.n");
+}
+
+/// A script with a method `m` of these lines, which main calls for a chain of three
+/// cards with another card.
+fn script_with_chain(requires: &str, ensures: &str, body: &str) -> Vec<u8> {
+    let text = format!(
+        "class S\nfield S p\nmethod S m S w\nrequires {requires}\nensures {ensures}\n\
+         var S t\nvar S n\n{body}end\nmain\nvar S a\nvar S b\nvar S c\nvar S d\nvar S r\n\
+         new a S\nshut a p\nnew b S\nset b p a\nshut b p\nnew c S\nset c p b\nshut c p\nnew d S\n\
+         call r c m d\nend\n"
+    );
+    text.replace(' ', "\t").into_bytes()
+}
+
+const CHAIN: &str = "chain this p ne this null";
+const WITH: &str = "chain this p ne this null acc w p";
+
+/// What m requires, ensures and does, and what is told.
+const CHAINS: [(&str, &str, &str, &str); 9] = [
+    (CHAIN, "chain this p", "", "chain this p chain back"),
+    (CHAIN, "ne this null", "", "chain this p chain"),
+    (
+        CHAIN,
+        "chain this p",
+        "open t this p\nshut this p\n",
+        "chain this p chain back",
+    ),
+    (
+        CHAIN,
+        "chain this p",
+        "open t this p\nset this p n\nlet n null\nset this p n\nshut this p\n",
+        "chain this p chain written",
+    ),
+    (
+        CHAIN,
+        "chain this p",
+        "new t S\nset t p this\n",
+        "chain this p chain back",
+    ),
+    (
+        WITH,
+        "chain this p acc w p",
+        "set w p this\n",
+        "chain this p chain back, w.p whole written back",
+    ),
+    (
+        WITH,
+        "chain w p",
+        "set w p this\nshut w p\n",
+        "chain this p chain, w.p whole written back",
+    ),
+    (
+        WITH,
+        "chain this p acc w p",
+        "open t this p\nset this p t\nshut this p\n",
+        "chain this p chain written, w.p whole back",
+    ),
+    (
+        WITH,
+        "chain this p chain w p",
+        "let t null\nset w p t\nshut w p\n",
+        "chain this p chain back, w.p whole written back",
+    ),
+];
+
+/// A chain is handed over as a whole; what is written beside it is none of its
+/// cards, and it comes back by its name if none of its links is written.
+#[test]
+fn chains_are_told() {
+    for (requires, ensures, body, wanted) in CHAINS {
+        let text = script_with_chain(requires, ensures, body);
+        assert_eq!(model::check(&text), (0, 0), "{requires}: {body}");
+        let script = Script::of(&text).expect("it is read");
+        let rows = methods::rows(&script);
+        run_is_as_told(&script, &rows);
+        assert_eq!(told(&rows[0]), wanted, "{requires}: {ensures}: {body}");
+    }
 }
