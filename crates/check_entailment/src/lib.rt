@@ -38,11 +38,6 @@ pub enum Atom {
     Ne(Term, Term),
 }
 
-pub struct Shown {
-    pub answer: Answer,
-    pub left: [u8; Machine::PERMISSIONS],
-}
-
 // One more entry, of the kind k.
 pub fn add_permission(b: &mut [u8; State::BYTES], k: u8, x: u8, f: u8) -> Answer
     requires { ⌜ (entries (now b) ≤ most-permissions) × (length (now b) ≡ bytes) × IsKind k ⌝ }
@@ -65,9 +60,8 @@ fn add_read(key: &[u64; State::SLOTS], b: &mut [u8; State::BYTES], x: u8, f: u8)
     ensures { λ r. ⌜ Adds (Rules.addOwn Syntax.read x f (stateOf (now (key .entry)) (now (b .entry)))) r (now (key .entry)) (now (b .exit)) ⌝ }
 {
     let n = b[State::ENTRIES] as usize;
-    let kinds = check_state::kinds(b);
     let k = check_equality::variable_key(x);
-    let i = check_state::entry(key, b, &kinds, State::READ, State::READ, k, f);
+    let i = check_state::listed_entry(key, b, State::READ, State::READ, k, f);
     if n <= i {
         return add_permission(b, State::READ, x, f);
     }
@@ -139,41 +133,34 @@ fn shown_by_null<'a>(
 pub fn take<'a>(
     key: &'a [u64; State::SLOTS],
     b: &'a [u8; State::BYTES],
-    left: [u8; Machine::PERMISSIONS],
+    left: &mut [u8; Machine::PERMISSIONS],
     want: u8,
     k: u64,
     f: u8,
-) -> Shown
-    requires { ⌜ Wf (now key) (now b) × LeftFits (now b) left × IsKind want ⌝ }
-    ensures { λ r. ⌜ LeftFits (now (b .entry)) (r .left) × Takes (now (key .entry)) (now (b .entry)) left want (termOf k) f (r .answer) (r .left) ⌝ }
+) -> Answer
+    requires { ⌜ Wf (now key) (now b) × LeftFits (now b) (now left) × IsKind want ⌝ }
+    ensures { λ r. ⌜ LeftFits (now (b .entry)) (now (left .exit)) × Takes (now (key .entry)) (now (b .entry)) (now (left .entry)) want (termOf k) f r (now (left .exit)) ⌝ }
 {
-    let i = check_state::entry(key, b, &left, want, most_serving(want), k, f);
+    let i = check_state::entry(key, b, left, want, most_serving(want), k, f);
     if i < (b[State::ENTRIES] as usize) {
-        let mut after = left;
-        after[i] = left[i] - want;
-        return Shown {
-            answer: Answer::Done,
-            left: after,
-        };
+        let l = left[i];
+        left[i] = l - want;
+        return Answer::Done;
     }
-    let shown = shown_by_null(key, b, want, k);
-    Shown {
-        answer: permitted(shown),
-        left,
-    }
+    permitted(shown_by_null(key, b, want, k))
 }
 
 // The same of the variable y.
 fn show_access<'a>(
     key: &'a [u64; State::SLOTS],
     b: &'a [u8; State::BYTES],
-    left: [u8; Machine::PERMISSIONS],
+    left: &mut [u8; Machine::PERMISSIONS],
     want: u8,
     y: u8,
     f: u8,
-) -> Shown
-    requires { ⌜ Wf (now key) (now b) × LeftFits (now b) left × IsKind want ⌝ }
-    ensures { λ r. ⌜ LeftFits (now (b .entry)) (r .left) × ShowsAtom (now (key .entry)) (now (b .entry)) left (Syntax.own (permitOf want) y f) (r .answer) (r .left) ⌝ }
+) -> Answer
+    requires { ⌜ Wf (now key) (now b) × LeftFits (now b) (now left) × IsKind want ⌝ }
+    ensures { λ r. ⌜ LeftFits (now (b .entry)) (now (left .exit)) × ShowsAtom (now (key .entry)) (now (b .entry)) (now (left .entry)) (Syntax.own (permitOf want) y f) r (now (left .exit)) ⌝ }
 {
     take(key, b, left, want, check_equality::variable_key(y), f)
 }
@@ -205,24 +192,18 @@ fn show_relation<'a>(
 pub fn show_atom<'a>(
     key: &'a [u64; State::SLOTS],
     b: &'a [u8; State::BYTES],
-    left: [u8; Machine::PERMISSIONS],
+    left: &mut [u8; Machine::PERMISSIONS],
     a: Atom,
-) -> Shown
-    requires { ⌜ Wf (now key) (now b) × LeftFits (now b) left ⌝ }
-    ensures { λ r. ⌜ LeftFits (now (b .entry)) (r .left) × ShowsAtom (now (key .entry)) (now (b .entry)) left (atomOf a) (r .answer) (r .left) ⌝ }
+) -> Answer
+    requires { ⌜ Wf (now key) (now b) × LeftFits (now b) (now left) ⌝ }
+    ensures { λ r. ⌜ LeftFits (now (b .entry)) (now (left .exit)) × ShowsAtom (now (key .entry)) (now (b .entry)) (now (left .entry)) (atomOf a) r (now (left .exit)) ⌝ }
 {
     match a {
         Atom::Acc(y, f) => show_access(key, b, left, State::ACC, y, f),
         Atom::Read(y, f) => show_access(key, b, left, State::READ, y, f),
         Atom::Chain(y, f) => show_access(key, b, left, State::CHAIN, y, f),
-        Atom::Eq(l, r) => Shown {
-            answer: show_relation(key, b, false, l, r),
-            left,
-        },
-        Atom::Ne(l, r) => Shown {
-            answer: show_relation(key, b, true, l, r),
-            left,
-        },
+        Atom::Eq(l, r) => show_relation(key, b, false, l, r),
+        Atom::Ne(l, r) => show_relation(key, b, true, l, r),
     }
 }
 

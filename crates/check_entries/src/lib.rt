@@ -79,7 +79,7 @@ pub fn store_left(
 }
 
 // The first entry that is out, or n.
-fn first_out(out: &[bool; Machine::PERMISSIONS], n: usize) -> usize
+pub fn first_out(out: &[bool; Machine::PERMISSIONS], n: usize) -> usize
     requires { ⌜ n ≤ most-permissions ⌝ }
     ensures { λ r. ⌜ FirstPlace (λ i. getD (now (out .entry)) i false) n r ⌝ }
 {

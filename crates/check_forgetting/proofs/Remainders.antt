@@ -21,7 +21,7 @@ use Rattle.check_equality.specs.Listing.{listed}
 use Rattle.check_equality.specs.Keys.{termOf}
 use Rattle.check_equality.specs.Layout.{variables-at, fields-at, kinds-at, fact-count, entry-count, chain-kind}
 use Rattle.check_equality.proofs.Listing.{any-append, any-found}
-use Rattle.check_inequality.proofs.Searches.{any-same}
+use Rattle.check_inequality.proofs.Searches.{any-same, any-places}
 use Rattle.check_state.specs.States.{Wf, stateOf, facts, entries, kindAt, permissionAt, permissionsIn, permissionsOf, isPathAt, leftAt, pathAtEntry, IsKind}
 use Rattle.check_state.specs.Questions.{places}
 use Rattle.check_state.proofs.Entries.{path-kind}
@@ -160,6 +160,9 @@ module _ (b : List ℕ) (out : List Bool) where
   -- nothing is dropped, or the sides that name a dropped path give way
   pub kept-out : (key : List ℕ) → Wf key b → false ≡ any (droppedAt b out (entries b)) (places (entries b)) → ForgotOut key b out key b
   kept-out key w e = record { wf = w; facts = sym (keeps-facts (stateOf key b) e); rest = λ i g s. refl }
+
+  pub nothing-out : (key : List ℕ) → Wf key b → ((i : ℕ) → i < entries b → getD out i false ≡ false) → ForgotOut key b out key b
+  nothing-out key w h = kept-out key w (sym (any-places _ (λ i. i) (entries b) (λ i l. rw (h i l))))
 
   pub dropped-out :
       (key key₁ b₁ : List ℕ) → true ≡ any (droppedAt b out (entries b)) (places (entries b)) → Forgot (keyDropped b out) key b out 255 key₁ b₁ → ForgotOut key b out key₁ b₁

@@ -73,6 +73,9 @@ fn forget_out(
     ensures { λ _. ⌜ ForgotOut (now (key .entry)) (now (b .entry)) (now (out .entry)) (now (key .exit)) (now (b .exit)) ⌝ }
 {
     let p = b[State::ENTRIES] as usize;
+    if p <= check_entries::first_out(out, p) {
+        return;
+    }
     let marks = check_entries::marks_out(b, out, p);
     let from = check_scans::first_marked(key, b, &marks);
     if from < (b[State::FACTS] as usize) {

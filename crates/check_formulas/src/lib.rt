@@ -1,15 +1,15 @@
 // Formulas of the tables shown and added, also with a call's actual names.
 use check_entailment::Answer;
 use check_entailment::Atom;
-use check_entailment::Shown;
 use check_equality::State;
 use check_equality::Term;
+use rules::Machine;
 use tables::AtomKind;
 use tables::Layout;
 ghost use mathlib.Core.Path.{_≡_};
 ghost use Prim.Native.Nat.{_+_, _≤_, _<_};
 ghost use lib.ListN.{length};
-ghost use Rattle.rules.specs.Limits.{work-bytes};
+ghost use Rattle.rules.specs.Limits.{work-bytes, most-permissions};
 ghost use Rattle.rules.specs.Syntax.{own};
 ghost use Rattle.rules.specs.State as Rules;
 ghost use Rattle.rules.specs.Rules.{substTerm, substAtom};
@@ -17,7 +17,8 @@ ghost use Rattle.rules.specs.Rules as Rule;
 ghost use Rattle.tables.specs.Layout.{most-atom-rows};
 ghost use Rattle.tables.specs.Decode.{exprAt, leftAt, rightAt, atomAt, permitOf};
 ghost use Rattle.check_equality.specs.Keys.{meaning};
-ghost use Rattle.check_state.specs.States.{Wf, stateOf};
+ghost use Rattle.check_state.specs.States.{Wf, stateOf, kindAt};
+ghost use Rattle.check_state.specs.Questions.{Bytes};
 ghost use Rattle.check_entries.specs.Entries.{LeftFits};
 ghost use Rattle.check_entailment.specs.Answers.{atomOf, Adds};
 ghost use Rattle.check_formulas.specs.Formulas.{side-bytes, formula, accessAt, Shows};
@@ -121,7 +122,7 @@ pub fn atom(w: &[u8], a: usize, y: u8, z: u8, x: u8) -> Atom
     Atom::Ne(left(w, a, y, z, x), right(w, a, y, z, x))
 }
 
-// Shows n atoms from the atom a on, and says what is left of the entries then.
+// Shows n atoms from the atom a on. `left` has the kinds of the entries, and what is left of each then.
 pub fn show<'a>(
     w: &'a [u8],
     a: usize,
@@ -131,25 +132,20 @@ pub fn show<'a>(
     x: u8,
     key: &'a [u64; State::SLOTS],
     b: &'a [u8; State::BYTES],
-) -> Shown
-    requires { ⌜ (length (now w) ≡ work-bytes) × (a + n ≤ most-atom-rows) × Wf (now key) (now b) ⌝ }
-    ensures { λ r. ⌜ LeftFits (now (b .entry)) (r .left) × Shows (now (key .entry)) (now (b .entry)) (formula (now (w .entry)) y z x a n) (r .answer) (r .left) ⌝ }
+    left: &mut [u8; Machine::PERMISSIONS],
+) -> Answer
+    requires { ⌜ (length (now w) ≡ work-bytes) × (a + n ≤ most-atom-rows) × Wf (now key) (now b) × Bytes (kindAt (now b)) most-permissions (now left) ⌝ }
+    ensures { λ r. ⌜ LeftFits (now (b .entry)) (now (left .exit)) × Shows (now (key .entry)) (now (b .entry)) (formula (now (w .entry)) y z x a n) r (now (left .exit)) ⌝ }
 {
-    let mut left = check_state::kinds(b);
     let mut i = 0;
     while i < n {
-        let r = check_entailment::show_atom(key, b, left, atom(w, a + i, y, z, x));
-        let k = r.answer;
-        left = r.left;
+        let k = check_entailment::show_atom(key, b, left, atom(w, a + i, y, z, x));
         let Answer::Done = k else {
-            return Shown { answer: k, left };
+            return k;
         };
         i += 1;
     }
-    Shown {
-        answer: Answer::Done,
-        left,
-    }
+    Answer::Done
 }
 
 // Adds n atoms from the atom a on.

@@ -4,8 +4,10 @@ mod by_numbers;
 pub use by_numbers::number_like;
 use check_equality::State;
 ghost use mathlib.Core.Path.{_≡_};
-ghost use mathlib.Core.Bool.{true, _&&_};
+ghost use mathlib.Core.Bool.{true, false, _&&_, _||_};
+ghost use mathlib.Core.Logic.{_⊎_};
 ghost use Prim.Native.Nat.{_≤_, _<_};
+ghost use lib.Dec.{eqb};
 ghost use Rattle.rules.specs.Base.{any};
 ghost use Rattle.rules.specs.Limits.{most-permissions, most-facts};
 ghost use Rattle.rules.specs.Syntax as Syntax;
@@ -15,8 +17,8 @@ ghost use Rattle.rules.specs.State.{nullAndObject, twoEntries, equalIn, holdsIn
 ghost use Rattle.check_equality.specs.Keys.{termOf, first-number};
 ghost use Rattle.check_equality.specs.Links.{Labelled, relOf};
 ghost use Rattle.check_state.specs.States.{Wf, stateOf, permissionsIn, permitOf};
-ghost use Rattle.check_state.specs.Questions.{Slots, Told, places};
-ghost use Rattle.check_inequality.specs.Ways.{eitherWay, unequalAt, unequalIn, PairTold};
+ghost use Rattle.check_state.specs.Questions.{Slots, Told, FirstPlace, places};
+ghost use Rattle.check_inequality.specs.Ways.{eitherWay, unequalAt, unequalIn, namedAt, PairTold};
 
 fn either_way(x: u8, y: u8, a: u8, b: u8) -> bool
     ensures { λ r. ⌜ r ≡ eitherWay x y a b ⌝ }
@@ -34,12 +36,26 @@ fn unequal_at(c: u8, x: u8, y: u8, a: u8, b: u8) -> bool
     }
 }
 
-// (a) Is an inequality listed whose sides have the labels x and y?
-fn listed_unequal(b: &[u8; State::BYTES], n: usize, x: u8, y: u8) -> bool
-    requires { ⌜ n ≤ most-facts ⌝ }
+// Is one of eight facts an inequality?
+fn some_unequal(a: u8, b: u8, c: u8, d: u8, e: u8, f: u8, g: u8, h: u8) -> bool
+    ensures { λ r. ⌜ r ≡ (((((((eqb a 1 || eqb b 1) || eqb c 1) || eqb d 1) || eqb e 1) || eqb f 1) || eqb g 1) || eqb h 1) ⌝ }
+{
+    (a == State::UNEQUAL)
+        | (b == State::UNEQUAL)
+        | (c == State::UNEQUAL)
+        | (d == State::UNEQUAL)
+        | (e == State::UNEQUAL)
+        | (f == State::UNEQUAL)
+        | (g == State::UNEQUAL)
+        | (h == State::UNEQUAL)
+}
+
+// Is an inequality whose sides have the labels x and y among the facts up to n, where none is before `from`?
+fn unequal_from(b: &[u8; State::BYTES], from: usize, n: usize, x: u8, y: u8) -> bool
+    requires { ⌜ (from ≤ n) × (n ≤ most-facts) × (any (unequalIn (now b) x y) (places from) ≡ false) ⌝ }
     ensures { λ r. ⌜ r ≡ any (unequalIn (now (b .entry)) x y) (places n) ⌝ }
 {
-    let mut i = 0;
+    let mut i = from;
     while i < n {
         if unequal_at(
             b[State::RELATIONS + i],
@@ -53,6 +69,35 @@ fn listed_unequal(b: &[u8; State::BYTES], n: usize, x: u8, y: u8) -> bool
         i += 1;
     }
     false
+}
+
+// So many facts are looked at together.
+const BLOCK: usize = 8;
+
+// (a) Is an inequality listed whose sides have the labels x and y?
+fn listed_unequal(b: &[u8; State::BYTES], n: usize, x: u8, y: u8) -> bool
+    requires { ⌜ n ≤ most-facts ⌝ }
+    ensures { λ r. ⌜ r ≡ any (unequalIn (now (b .entry)) x y) (places n) ⌝ }
+{
+    let mut i = 0;
+    while i + BLOCK <= n {
+        if some_unequal(
+            b[State::RELATIONS + i],
+            b[State::RELATIONS + (i + 1)],
+            b[State::RELATIONS + (i + 2)],
+            b[State::RELATIONS + (i + 3)],
+            b[State::RELATIONS + (i + 4)],
+            b[State::RELATIONS + (i + 5)],
+            b[State::RELATIONS + (i + 6)],
+            b[State::RELATIONS + (i + 7)],
+        ) {
+            if unequal_from(b, i, i + BLOCK, x, y) {
+                return true;
+            }
+        }
+        i += BLOCK;
+    }
+    unequal_from(b, i, n, x, y)
 }
 
 // Is an entry of x with the kind c a listed path, and x ~ the term of k?
@@ -159,8 +204,42 @@ fn pair<'a>(
     false
 }
 
+// The first entry of a variable ~ the term of k, or n.
+fn first_named<'a>(
+    key: &'a [u64; State::SLOTS],
+    b: &'a [u8; State::BYTES],
+    m: usize,
+    n: usize,
+    k: u64,
+    a: u8,
+) -> usize
+    requires { ⌜ Slots (now key) (now b) m × Labelled (now key) (now b) m k a × (n ≤ most-permissions) ⌝ }
+    ensures { λ r. ⌜ (r ≤ n) × Told (now (key .entry)) (now (b .entry)) m (λ same. FirstPlace (namedAt (now (b .entry)) k same) n r) ⌝ }
+{
+    let mut i = 0;
+    while i < n {
+        if check_state::variable_is(key, b, m, b[State::VARIABLES + i], k, a) {
+            return i;
+        }
+        i += 1;
+    }
+    n
+}
+
+fn earlier(i: usize, j: usize) -> usize
+    ensures { λ r. ⌜ (r ≤ i) × (r ≤ j) ⌝ }
+{
+    if i < j { i } else { j }
+}
+
+fn later(i: usize, j: usize) -> usize
+    ensures { λ r. ⌜ (i ≤ r) × ((r ≡ i) ⊎ (r ≡ j)) ⌝ }
+{
+    if i < j { j } else { i }
+}
+
 // (d) Are the terms of t and u ~ the variables of two entries for one field, one of them an `acc`? Only an entry whose variable is ~ to one of them is
-// tried with those before it.
+// tried with those before it, and none before both terms had one.
 fn two_entries<'a>(
     key: &'a [u64; State::SLOTS],
     b: &'a [u8; State::BYTES],
@@ -174,13 +253,16 @@ fn two_entries<'a>(
     requires { ⌜ Slots (now key) (now b) m × Labelled (now key) (now b) m t x × Labelled (now key) (now b) m u y × (n ≤ most-permissions) ⌝ }
     ensures { λ r. ⌜ Told (now (key .entry)) (now (b .entry)) m (λ same. r ≡ twoEntries same (permissionsIn (now (b .entry)) n) (termOf t) (termOf u)) ⌝ }
 {
+    let s = first_named(key, b, m, n, t, x);
+    let v = first_named(key, b, m, n, u, y);
+    let first = earlier(s, v);
     let mut found = false;
-    let mut i = 0;
+    let mut i = later(s, v);
     'entries: while i < n {
         let p = check_state::variable_is(key, b, m, b[State::VARIABLES + i], t, x);
         let q = check_state::variable_is(key, b, m, b[State::VARIABLES + i], u, y);
         if p | q {
-            let mut j = 0;
+            let mut j = first;
             while j < i {
                 if pair(key, b, m, j, i, t, x, u, y, p, q) {
                     found = true;

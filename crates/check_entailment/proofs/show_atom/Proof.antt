@@ -37,15 +37,15 @@ show-relation-requires-2 c κs = search needs
 
 returns : tie.Need-returns
 unfolding atomOf permitOf
-returns c = rw (c .before .before .a .given .1) (c .show-access .ensures)
+returns c = rw (c .before .before .before .a .given .1) (c .show-access .ensures)
 
 returns-2 : tie.Need-returns-2
 unfolding atomOf permitOf
-returns-2 c = rw (c .before .before .a2 .given .1) (c .show-access2 .ensures)
+returns-2 c = rw (c .before .before .before .a2 .given .1) (c .show-access2 .ensures)
 
 returns-3 : tie.Need-returns-3
 unfolding atomOf permitOf
-returns-3 c = rw (c .before .before .a3 .given .1) (c .show-access3 .ensures)
+returns-3 c = rw (c .before .before .before .a3 .given .1) (c .show-access3 .ensures)
 
 returns-4 : tie.Need-returns-4
 unfolding atomOf relOf
