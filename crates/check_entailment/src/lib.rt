@@ -19,7 +19,7 @@ ghost use Rattle.check_equality.specs.Keys.{termOf, meaning};
 ghost use Rattle.check_equality.specs.Links.{relOf};
 ghost use Rattle.check_state.specs.States.{Wf, stateOf, entries, permitOf, IsKind};
 ghost use Rattle.check_entries.specs.Entries.{LeftFits};
-ghost use Rattle.check_entailment.specs.Answers.{Adds, answered, mostServing, Takes, ShowsAtom, ShowsRelation, AddsAtom, atomOf};
+ghost use Rattle.check_entailment.specs.Answers.{Adds, answered, mostServing, Takes, ShowsAtom, ShowsRelation, AddsAtom};
 
 pub enum Answer {
     Done,
@@ -28,14 +28,6 @@ pub enum Answer {
     NotShown,
     Full,
     Malformed,
-}
-
-pub enum Atom {
-    Acc(u8, u8),
-    Read(u8, u8),
-    Chain(u8, u8),
-    Eq(Term, Term),
-    Ne(Term, Term),
 }
 
 // One more entry, of the kind k.
@@ -67,6 +59,17 @@ fn add_read(key: &[u64; State::SLOTS], b: &mut [u8; State::BYTES], x: u8, f: u8)
     }
     b[State::KINDS + i] = State::ACC;
     Answer::Done
+}
+
+// `acc x f`, `read x f` or `chain x f`, by its kind.
+pub fn add_own(key: &[u64; State::SLOTS], b: &mut [u8; State::BYTES], k: u8, x: u8, f: u8) -> Answer
+    requires { ⌜ Wf (now key) (now b) × IsKind k ⌝ }
+    ensures { λ r. ⌜ AddsAtom (now (key .entry)) (now (b .entry)) (Syntax.own (permitOf k) x f) r (now (key .entry)) (now (b .exit)) ⌝ }
+{
+    if k == State::READ {
+        return add_read(key, b, x, f);
+    }
+    add_permission(b, k, x, f)
 }
 
 fn flag(apart: bool) -> u8
@@ -151,7 +154,7 @@ pub fn take<'a>(
 }
 
 // The same of the variable y.
-fn show_access<'a>(
+pub fn show_access<'a>(
     key: &'a [u64; State::SLOTS],
     b: &'a [u8; State::BYTES],
     left: &mut [u8; Machine::PERMISSIONS],
@@ -166,7 +169,7 @@ fn show_access<'a>(
 }
 
 // `eq`, or where `apart` `ne`.
-fn show_relation<'a>(
+pub fn show_relation<'a>(
     key: &'a [u64; State::SLOTS],
     b: &'a [u8; State::BYTES],
     apart: bool,
@@ -188,25 +191,6 @@ fn show_relation<'a>(
     Answer::NotShown
 }
 
-// An atom, by what is left of the entries.
-pub fn show_atom<'a>(
-    key: &'a [u64; State::SLOTS],
-    b: &'a [u8; State::BYTES],
-    left: &mut [u8; Machine::PERMISSIONS],
-    a: Atom,
-) -> Answer
-    requires { ⌜ Wf (now key) (now b) × LeftFits (now b) (now left) ⌝ }
-    ensures { λ r. ⌜ LeftFits (now (b .entry)) (now (left .exit)) × ShowsAtom (now (key .entry)) (now (b .entry)) (now (left .entry)) (atomOf a) r (now (left .exit)) ⌝ }
-{
-    match a {
-        Atom::Acc(y, f) => show_access(key, b, left, State::ACC, y, f),
-        Atom::Read(y, f) => show_access(key, b, left, State::READ, y, f),
-        Atom::Chain(y, f) => show_access(key, b, left, State::CHAIN, y, f),
-        Atom::Eq(l, r) => show_relation(key, b, false, l, r),
-        Atom::Ne(l, r) => show_relation(key, b, true, l, r),
-    }
-}
-
 // `eq`, or where `apart` `ne`, with both sides resolved.
 pub fn add_relation(
     key: &mut [u64; State::SLOTS],
@@ -225,18 +209,4 @@ pub fn add_relation(
         return Answer::Unresolved;
     };
     add_fact(key, b, apart, t, u)
-}
-
-// One more atom of a formula: its permission, or its fact resolved.
-pub fn add_atom(key: &mut [u64; State::SLOTS], b: &mut [u8; State::BYTES], a: Atom) -> Answer
-    requires { ⌜ Wf (now key) (now b) ⌝ }
-    ensures { λ r. ⌜ AddsAtom (now (key .entry)) (now (b .entry)) (atomOf a) r (now (key .exit)) (now (b .exit)) ⌝ }
-{
-    match a {
-        Atom::Acc(x, f) => add_permission(b, State::ACC, x, f),
-        Atom::Read(x, f) => add_read(key, b, x, f),
-        Atom::Chain(x, f) => add_permission(b, State::CHAIN, x, f),
-        Atom::Eq(l, r) => add_relation(key, b, false, l, r),
-        Atom::Ne(l, r) => add_relation(key, b, true, l, r),
-    }
 }

@@ -106,7 +106,17 @@ pub fn assert_rule<'a>(
     ensures { λ r. ⌜ Asserts (atomsFrom (now (w .entry)) a n) (stateOf (now (key .entry)) (now (b .entry))) r ⌝ }
 {
     let mut left = check_state::kinds(b);
-    check_formulas::show(w, a, n, State::THIS, State::PARAM, State::RESULT, key, b, &mut left)
+    check_formulas::show(
+        w,
+        a,
+        n,
+        State::THIS,
+        State::PARAM,
+        State::RESULT,
+        key,
+        b,
+        &mut left,
+    )
 }
 
 // The end of a part or a block shows the formula, but after a `return` nothing.
@@ -158,7 +168,17 @@ pub fn release_rule(
     ensures { λ r. ⌜ Adds (releaseRule (atomsFrom (now (w .entry)) a n) (stateOf (now (key .entry)) (now (b .entry)))) r (now (key .exit)) (now (b .exit)) ⌝ }
 {
     let mut left = check_state::kinds(b);
-    let k = check_formulas::show(w, a, n, State::THIS, State::PARAM, State::RESULT, key, b, &mut left);
+    let k = check_formulas::show(
+        w,
+        a,
+        n,
+        State::THIS,
+        State::PARAM,
+        State::RESULT,
+        key,
+        b,
+        &mut left,
+    );
     check_forgetting::remainder(key, b, &left);
     k
 }

@@ -28,14 +28,14 @@ variable-is-requires c κs = (c .before .before .before .pre .0, c .before .befo
 
 returns : tie.Need-returns Inv-loop μ-loop
 returns c = (
-    omega arith,
-    λ fs D.
-    record {
-      within = omega arith;
-      before = c .before .before .before .before .loop .inv .1 fs D;
-      found = λ _. sym (c .before .variable-is .ensures fs D) ∙ c .if1 .taken;
-    },
-  )
+  omega arith,
+  λ fs D.
+      record {
+        within = omega arith;
+        before = c .before .before .before .before .loop .inv .1 fs D;
+        found = λ _. sym (c .before .variable-is .ensures fs D) ∙ c .if1 .taken;
+      },
+)
 
 add-i : tie.Need-add-i Inv-loop μ-loop
 add-i c = omega arith

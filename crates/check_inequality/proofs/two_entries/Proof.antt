@@ -50,8 +50,8 @@ entries-holds c =
       ⊎-elim (λ e. rw e (of-t .ensures .0)) (λ e. rw e (of-u .ensures .0)) (c .later .ensures .1),
       refl,
       λ fs D. ⊎-elim (λ e. rw e (two-without-t _ (start .args .t) (start .args .u) entry _ (of-t .ensures .1 fs D .before)))
-        (λ e. rw e (two-without-u _ (start .args .t) (start .args .u) entry _ (of-u .ensures .1 fs D .before)))
-        (c .later .ensures .1),
+          (λ e. rw e (two-without-u _ (start .args .t) (start .args .u) entry _ (of-u .ensures .1 fs D .before)))
+          (c .later .ensures .1),
       omega (arith, c .before .earlier .ensures .0, c .later .ensures .0),
     )
 
@@ -85,8 +85,8 @@ loop-holds c =
       at-entries .inv .3,
       at-entries .inv .1,
       λ fs D. two-unnamed _ (start .args .t) (start .args .u) (permissionAt (start .args .b .now)) _ _
-        (λ i l. of-t .ensures .1 fs D .before i (omega (arith, l, at-earlier .ensures .0)))
-        (λ i l. of-u .ensures .1 fs D .before i (omega (arith, l, at-earlier .ensures .1))),
+          (λ i l. of-t .ensures .1 fs D .before i (omega (arith, l, at-earlier .ensures .0)))
+          (λ i l. of-u .ensures .1 fs D .before i (omega (arith, l, at-earlier .ensures .1))),
     )
 
 pair-requires : tie.Need-pair-requires Inv-loop μ-loop Inv-entries μ-entries

@@ -1,6 +1,5 @@
 use native.Mathlib.Omega.{arith}
 use Rattle.rules.specs.State.{equalIn}
-use borrow.Author.Needs.{needs}
 use Rattle.check_state.proofs.entry.Statement.{statement}
 use Rattle.check_state.proofs.entry.Tie as tie
 

@@ -81,12 +81,12 @@ loop-less c = omega arith
 
 loop-again : tie.Need-loop-again Inv-loop μ-loop
 loop-again c = (
-    omega arith,
-    λ fs D. below-more _ _ (c .before .before .before .loop .inv .1 fs D) (⊎-elim
+  omega arith,
+  λ fs D. below-more _ _ (c .before .before .before .loop .inv .1 fs D) (⊎-elim
       (λ w. by-field _ _ _ _ _ _ (eq-eqb _ _ (w .0 .taken)) ∙ sym (rw (w .2 .ensures) at (w .4 .ensures fs D)) ∙ w .5 .left)
       (λ w. by-other _ _ _ _ _ _ (ne-eqb _ _ (w .left)))
       (c .if1 .came)),
-  )
+)
 
 returns-2 : tie.Need-returns-2 Inv-loop μ-loop
 returns-2 c =

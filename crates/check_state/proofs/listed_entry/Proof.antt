@@ -1,5 +1,4 @@
-use Prim.Native.Nat.{_-_, _≤_}
-use lib.ListN.{length, length-drop, drop}
+use lib.ListN.{length-drop}
 use native.Mathlib.Omega.{arith}
 use borrow.Author.Needs.{needs}
 use borrow.Rule.Slice.PartAt.{part-to-end}

@@ -1,4 +1,3 @@
-use mathlib.Core.Bool.{_&&_}
 use borrow.Author.Needs.{needs}
 use Rattle.check_state.proofs.names.Statement.{statement}
 use Rattle.check_state.proofs.names.Tie as tie

@@ -68,7 +68,8 @@ returns-2 c =
     let at-remove = c .before .before .before .before .before .remove in
     let at-ensures-first = c .before .before .before .before .ensures-first in
     let at-ensures-count = c .before .before .before .ensures-count in
-    call-done (start .args .w .now) _ _ (start .args .m) _ (start .args .key .now) (start .args .b .now) _ _ _ _ (at-requires-first .ensures .0) (at-requires-count .ensures .0) (at-ensures-first .ensures .0) (at-ensures-count .ensures .0) _ (at-show .last .1 .1 .1 .1 .1 .1 .1 .1 .0) (at-show .ensures .1) (at-enum-told .given .1) _ _ _ _ (at-remainder .ensures) (at-remove .ensures) _ _ _ (c .add .ensures)
+    call-done (start .args .w .now) _ _ (start .args .m) _ (start .args .key .now) (start .args .b .now) _ _ _ _
+    (at-requires-first .ensures .0) (at-requires-count .ensures .0) (at-ensures-first .ensures .0) (at-ensures-count .ensures .0) _ (at-show .last .1 .1 .1 .1 .1 .1 .1 .1 .0) (at-show .ensures .1) (at-enum-told .given .1) _ _ _ _ (at-remainder .ensures) (at-remove .ensures) _ _ _ (c .add .ensures)
 
 pub call-shown-spec : {M : Type 1} → statement M
 call-shown-spec =

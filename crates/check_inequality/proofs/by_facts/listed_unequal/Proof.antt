@@ -8,8 +8,8 @@ use mathlib.Core.Bool.{false}
 use mathlib.Core.Logic.{⊎-elim}
 use mathlib.Core.Path.{_≡_, sym, _∙_}
 use native.Mathlib.Omega.{arith}
-use Rattle.check_inequality.proofs.listed_unequal.Statement.{statement}
-use Rattle.check_inequality.proofs.listed_unequal.Tie as tie
+use Rattle.check_inequality.proofs.by_facts.listed_unequal.Statement.{statement}
+use Rattle.check_inequality.proofs.by_facts.listed_unequal.Tie as tie
 
 abbrev Inv-loop : tie.InvT-loop
 Inv-loop b n x y i₀ i = (i ≤ n) × (any (unequalIn b x y) (places i) ≡ false)
@@ -118,8 +118,8 @@ loop-again c =
     let start = c .before .before .before .before .before .before .before .before .before .before .before .before in (
       omega arith,
       ⊎-elim (λ w. sym (w .1 .ensures) ∙ w .2 .left)
-        (λ w. equal-block (start .args .b .now) (start .args .x) (start .args .y) _ (c .before .before .before .before .before .before .before .before .before .before .before .loop .inv .1) (sym (c .before .some-unequal .ensures) ∙ w .left))
-        (c .if1 .came),
+          (λ w. equal-block (start .args .b .now) (start .args .x) (start .args .y) _ (c .before .before .before .before .before .before .before .before .before .before .before .loop .inv .1) (sym (c .before .some-unequal .ensures) ∙ w .left))
+          (c .if1 .came),
     )
 
 unequal-from-requires-2 : tie.Need-unequal-from-requires-2 Inv-loop μ-loop

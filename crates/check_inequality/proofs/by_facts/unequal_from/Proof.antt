@@ -6,8 +6,8 @@ use Rattle.rules.specs.Base.{any}
 use mathlib.Core.Bool.{false}
 use mathlib.Core.Path.{_≡_, sym, _∙_}
 use native.Mathlib.Omega.{arith}
-use Rattle.check_inequality.proofs.unequal_from.Statement.{statement}
-use Rattle.check_inequality.proofs.unequal_from.Tie as tie
+use Rattle.check_inequality.proofs.by_facts.unequal_from.Statement.{statement}
+use Rattle.check_inequality.proofs.by_facts.unequal_from.Tie as tie
 
 abbrev Inv-loop : tie.InvT-loop
 Inv-loop b from n x y i₀ i = (i ≤ n) × (any (unequalIn b x y) (places i) ≡ false)
