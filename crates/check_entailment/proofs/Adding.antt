@@ -19,7 +19,7 @@ use Rattle.rules.specs.State.{Permission, Term, entry, equalIn, split, resolve}
 use Rattle.rules.proofs.Lists.{decide-eq}
 use Rattle.check_equality.specs.Keys.{termOf}
 use Rattle.check_equality.specs.Links.{Pushed, relOf, factOf}
-use Rattle.check_equality.specs.Layout.{left-sides, relations-at, variables-at, fields-at, kinds-at, fact-count, entry-count, read-kind, acc-kind, bytes}
+use Rattle.check_equality.specs.Layout.{left-sides, relations-at, variables-at, fields-at, kinds-at, fact-count, entry-count, read-kind, acc-kind, chain-kind, bytes}
 use Rattle.check_equality.proofs.Listing.{listed-length, listed-same}
 use Rattle.check_state.specs.States.{Wf, Linked, stateOf, facts, entries, factAt, factsIn, factsOf, variableAt, fieldAt, kindAt, permitOf, permissionAt, permissionsIn, permissionsOf, IsKind}
 use Rattle.check_state.specs.Questions.{FirstPlace, Bytes, entryTest, passes, inRange}
@@ -58,6 +58,12 @@ module _ (key b : List ℕ) (apart : Bool) (l r : Term) where
 pub own-atom : (key b : List ℕ) (k : Permit) (x f : ℕ) (a : Answer) (b′ : List ℕ) → Adds (Rules.addOwn k x f (stateOf key b)) a key b′ → AddsAtom key b (own k x f) a key b′
 unfolding Rules.add
 own-atom key b k x f a b′ A = record { wf = A .wf; same = A .same ∙ sym (last (Rules.addOwn k x f (stateOf key b))) }
+
+-- where it is not a `read`, one more entry
+pub own-listed : (k x f : ℕ) (s : Rules.State) → IsKind k → (k ≡ read-kind → ⊥) → Rules.addPermission (entry (permitOf k) x f) s ≡ Rules.addOwn (permitOf k) x f s
+unfolding Rules.addOwn permitOf
+own-listed k x f s i h =
+    ⊎-elim (λ (e : k ≡ acc-kind). rw e) (λ (n : k ≡ acc-kind → ⊥). let e : k ≡ chain-kind = omega (arith, i .0, i .1, h, n) in rw e) (decide-eq k acc-kind)
 
 -- ROOM
 pub full-permissions : (key b : List ℕ) (p : Permission) → Wf key b → most-permissions ≤ entries b → Adds (Rules.addPermission p (stateOf key b)) Answer.Full key b

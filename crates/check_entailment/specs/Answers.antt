@@ -7,16 +7,14 @@ use lib.Dec.{ltb}
 use Rattle.rules.specs.Base.{Try, ok, no}
 use Rattle.rules.specs.Answers.{Refusal, unresolved, noPermission, notShown, stateFull, malformed}
 use Rattle.rules.specs.Syntax as Syntax
-use Rattle.rules.specs.Syntax.{eq, ne, acc, read, chain, own, cmp}
+use Rattle.rules.specs.Syntax.{cmp}
 use Rattle.rules.specs.State as Rules
 use Rattle.rules.specs.State.{Permission, equalIn, takeOwn, showFrom}
 use Rattle.check_equality.specs.Layout.{acc-kind}
-use Rattle.check_equality.specs.Keys.{meaning}
 use Rattle.check_equality.specs.Links.{relOf}
 use Rattle.check_state.specs.States.{Wf, stateOf, permitOf}
 use Rattle.check_entries.specs.Entries.{leftOf}
 use Rattle.check_entailment.specs.declared.Answer.{Answer}
-use Rattle.check_entailment.specs.declared.Atom.{Atom}
 
 -- the refusal that an answer is, or what comes with it
 unfoldable pub answered : {A : Type 0} → Answer → A → Try Refusal A
@@ -26,13 +24,6 @@ answered Answer.NoPermission x = no noPermission
 answered Answer.NotShown x = no notShown
 answered Answer.Full x = no stateFull
 answered Answer.Malformed x = no malformed
-
-unfoldable pub atomOf : Atom → Syntax.Atom ℕ
-atomOf (Atom.Acc x f) = own acc x f
-atomOf (Atom.Read x f) = own read x f
-atomOf (Atom.Chain x f) = own chain x f
-atomOf (Atom.Eq l r) = cmp eq (meaning l) (meaning r)
-atomOf (Atom.Ne l r) = cmp ne (meaning l) (meaning r)
 
 -- the arrays then hold the state, or an answer says why there is none
 pub record Adds (t : Try Refusal Rules.State) (answer : Answer) (key b : List ℕ) : Type 0 where

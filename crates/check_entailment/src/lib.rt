@@ -19,7 +19,7 @@ ghost use Rattle.check_equality.specs.Keys.{termOf, meaning};
 ghost use Rattle.check_equality.specs.Links.{relOf};
 ghost use Rattle.check_state.specs.States.{Wf, stateOf, entries, permitOf, IsKind};
 ghost use Rattle.check_entries.specs.Entries.{LeftFits};
-ghost use Rattle.check_entailment.specs.Answers.{Adds, answered, mostServing, Takes, ShowsAtom, ShowsRelation, AddsAtom, atomOf};
+ghost use Rattle.check_entailment.specs.Answers.{Adds, answered, mostServing, Takes, ShowsAtom, ShowsRelation, AddsAtom};
 
 pub enum Answer {
     Done,
@@ -28,19 +28,6 @@ pub enum Answer {
     NotShown,
     Full,
     Malformed,
-}
-
-pub enum Atom {
-    Acc(u8, u8),
-    Read(u8, u8),
-    Chain(u8, u8),
-    Eq(Term, Term),
-    Ne(Term, Term),
-}
-
-pub struct Shown {
-    pub answer: Answer,
-    pub left: [u8; Machine::PERMISSIONS],
 }
 
 // One more entry, of the kind k.
@@ -65,14 +52,24 @@ fn add_read(key: &[u64; State::SLOTS], b: &mut [u8; State::BYTES], x: u8, f: u8)
     ensures { λ r. ⌜ Adds (Rules.addOwn Syntax.read x f (stateOf (now (key .entry)) (now (b .entry)))) r (now (key .entry)) (now (b .exit)) ⌝ }
 {
     let n = b[State::ENTRIES] as usize;
-    let kinds = check_state::kinds(b);
     let k = check_equality::variable_key(x);
-    let i = check_state::entry(key, b, &kinds, State::READ, State::READ, k, f);
+    let i = check_state::listed_entry(key, b, State::READ, State::READ, k, f);
     if n <= i {
         return add_permission(b, State::READ, x, f);
     }
     b[State::KINDS + i] = State::ACC;
     Answer::Done
+}
+
+// `acc x f`, `read x f` or `chain x f`, by its kind.
+pub fn add_own(key: &[u64; State::SLOTS], b: &mut [u8; State::BYTES], k: u8, x: u8, f: u8) -> Answer
+    requires { ⌜ Wf (now key) (now b) × IsKind k ⌝ }
+    ensures { λ r. ⌜ AddsAtom (now (key .entry)) (now (b .entry)) (Syntax.own (permitOf k) x f) r (now (key .entry)) (now (b .exit)) ⌝ }
+{
+    if k == State::READ {
+        return add_read(key, b, x, f);
+    }
+    add_permission(b, k, x, f)
 }
 
 fn flag(apart: bool) -> u8
@@ -139,47 +136,40 @@ fn shown_by_null<'a>(
 pub fn take<'a>(
     key: &'a [u64; State::SLOTS],
     b: &'a [u8; State::BYTES],
-    left: [u8; Machine::PERMISSIONS],
+    left: &mut [u8; Machine::PERMISSIONS],
     want: u8,
     k: u64,
     f: u8,
-) -> Shown
-    requires { ⌜ Wf (now key) (now b) × LeftFits (now b) left × IsKind want ⌝ }
-    ensures { λ r. ⌜ LeftFits (now (b .entry)) (r .left) × Takes (now (key .entry)) (now (b .entry)) left want (termOf k) f (r .answer) (r .left) ⌝ }
+) -> Answer
+    requires { ⌜ Wf (now key) (now b) × LeftFits (now b) (now left) × IsKind want ⌝ }
+    ensures { λ r. ⌜ LeftFits (now (b .entry)) (now (left .exit)) × Takes (now (key .entry)) (now (b .entry)) (now (left .entry)) want (termOf k) f r (now (left .exit)) ⌝ }
 {
-    let i = check_state::entry(key, b, &left, want, most_serving(want), k, f);
+    let i = check_state::entry(key, b, left, want, most_serving(want), k, f);
     if i < (b[State::ENTRIES] as usize) {
-        let mut after = left;
-        after[i] = left[i] - want;
-        return Shown {
-            answer: Answer::Done,
-            left: after,
-        };
+        let l = left[i];
+        left[i] = l - want;
+        return Answer::Done;
     }
-    let shown = shown_by_null(key, b, want, k);
-    Shown {
-        answer: permitted(shown),
-        left,
-    }
+    permitted(shown_by_null(key, b, want, k))
 }
 
 // The same of the variable y.
-fn show_access<'a>(
+pub fn show_access<'a>(
     key: &'a [u64; State::SLOTS],
     b: &'a [u8; State::BYTES],
-    left: [u8; Machine::PERMISSIONS],
+    left: &mut [u8; Machine::PERMISSIONS],
     want: u8,
     y: u8,
     f: u8,
-) -> Shown
-    requires { ⌜ Wf (now key) (now b) × LeftFits (now b) left × IsKind want ⌝ }
-    ensures { λ r. ⌜ LeftFits (now (b .entry)) (r .left) × ShowsAtom (now (key .entry)) (now (b .entry)) left (Syntax.own (permitOf want) y f) (r .answer) (r .left) ⌝ }
+) -> Answer
+    requires { ⌜ Wf (now key) (now b) × LeftFits (now b) (now left) × IsKind want ⌝ }
+    ensures { λ r. ⌜ LeftFits (now (b .entry)) (now (left .exit)) × ShowsAtom (now (key .entry)) (now (b .entry)) (now (left .entry)) (Syntax.own (permitOf want) y f) r (now (left .exit)) ⌝ }
 {
     take(key, b, left, want, check_equality::variable_key(y), f)
 }
 
 // `eq`, or where `apart` `ne`.
-fn show_relation<'a>(
+pub fn show_relation<'a>(
     key: &'a [u64; State::SLOTS],
     b: &'a [u8; State::BYTES],
     apart: bool,
@@ -201,31 +191,6 @@ fn show_relation<'a>(
     Answer::NotShown
 }
 
-// An atom, by what is left of the entries.
-pub fn show_atom<'a>(
-    key: &'a [u64; State::SLOTS],
-    b: &'a [u8; State::BYTES],
-    left: [u8; Machine::PERMISSIONS],
-    a: Atom,
-) -> Shown
-    requires { ⌜ Wf (now key) (now b) × LeftFits (now b) left ⌝ }
-    ensures { λ r. ⌜ LeftFits (now (b .entry)) (r .left) × ShowsAtom (now (key .entry)) (now (b .entry)) left (atomOf a) (r .answer) (r .left) ⌝ }
-{
-    match a {
-        Atom::Acc(y, f) => show_access(key, b, left, State::ACC, y, f),
-        Atom::Read(y, f) => show_access(key, b, left, State::READ, y, f),
-        Atom::Chain(y, f) => show_access(key, b, left, State::CHAIN, y, f),
-        Atom::Eq(l, r) => Shown {
-            answer: show_relation(key, b, false, l, r),
-            left,
-        },
-        Atom::Ne(l, r) => Shown {
-            answer: show_relation(key, b, true, l, r),
-            left,
-        },
-    }
-}
-
 // `eq`, or where `apart` `ne`, with both sides resolved.
 pub fn add_relation(
     key: &mut [u64; State::SLOTS],
@@ -244,18 +209,4 @@ pub fn add_relation(
         return Answer::Unresolved;
     };
     add_fact(key, b, apart, t, u)
-}
-
-// One more atom of a formula: its permission, or its fact resolved.
-pub fn add_atom(key: &mut [u64; State::SLOTS], b: &mut [u8; State::BYTES], a: Atom) -> Answer
-    requires { ⌜ Wf (now key) (now b) ⌝ }
-    ensures { λ r. ⌜ AddsAtom (now (key .entry)) (now (b .entry)) (atomOf a) r (now (key .exit)) (now (b .exit)) ⌝ }
-{
-    match a {
-        Atom::Acc(x, f) => add_permission(b, State::ACC, x, f),
-        Atom::Read(x, f) => add_read(key, b, x, f),
-        Atom::Chain(x, f) => add_permission(b, State::CHAIN, x, f),
-        Atom::Eq(l, r) => add_relation(key, b, false, l, r),
-        Atom::Ne(l, r) => add_relation(key, b, true, l, r),
-    }
 }

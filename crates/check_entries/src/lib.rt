@@ -79,7 +79,7 @@ pub fn store_left(
 }
 
 // The first entry that is out, or n.
-fn first_out(out: &[bool; Machine::PERMISSIONS], n: usize) -> usize
+pub fn first_out(out: &[bool; Machine::PERMISSIONS], n: usize) -> usize
     requires { ⌜ n ≤ most-permissions ⌝ }
     ensures { λ r. ⌜ FirstPlace (λ i. getD (now (out .entry)) i false) n r ⌝ }
 {
@@ -93,14 +93,14 @@ fn first_out(out: &[bool; Machine::PERMISSIONS], n: usize) -> usize
     n
 }
 
-// The entries that are not out. Those before the first that is out stay where they are.
-pub fn pack(b: &mut [u8; State::BYTES], out: &[bool; Machine::PERMISSIONS])
-    requires { ⌜ (entries (now b) ≤ most-permissions) × (length (now b) ≡ bytes) ⌝ }
+// The entries that are not out. Those before the first that is out, or all where that is their count, stay where they are.
+pub fn pack(b: &mut [u8; State::BYTES], out: &[bool; Machine::PERMISSIONS], first: usize)
+    requires { ⌜ (entries (now b) ≤ most-permissions) × (length (now b) ≡ bytes) × FirstPlace (λ i. getD (now out) i false) (entries (now b)) first ⌝ }
     ensures { λ _. ⌜ Packed (now (b .entry)) (now (out .entry)) (now (b .exit)) ⌝ }
 {
     let all = b[State::ENTRIES] as usize;
-    let mut n = first_out(out, all);
-    let mut i = n;
+    let mut n = first;
+    let mut i = first;
     while i < all {
         let x = b[State::VARIABLES + i];
         let f = b[State::FIELDS + i];

@@ -7,7 +7,7 @@ use mathlib.Core.Logic.{_⊎_, inl, inr, ⊎-elim}
 use Prim.Native.Nat.{ℕ, zero, suc, _+_, _≤_, _<_}
 use native.Mathlib.Omega.{arith}
 use native.Mathlib.Decide.{decLt}
-use lib.ListN.{getD}
+use lib.ListN.{length, getD}
 use borrow.Author.Tests.{eq-eqb, ne-eqb, lt-ltb}
 use Rattle.rules.specs.Base.{any}
 use Rattle.rules.specs.Limits.{most-permissions}
@@ -19,9 +19,9 @@ use Rattle.rules.proofs.Closure.{same-refl}
 use Rattle.rules.proofs.Successors.{without-is}
 use Rattle.check_equality.specs.Listing.{listed}
 use Rattle.check_equality.specs.Keys.{termOf}
-use Rattle.check_equality.specs.Layout.{variables-at, fields-at, kinds-at, fact-count, entry-count, chain-kind}
+use Rattle.check_equality.specs.Layout.{variables-at, fields-at, kinds-at, fact-count, entry-count, chain-kind, bytes}
 use Rattle.check_equality.proofs.Listing.{any-append, any-found}
-use Rattle.check_inequality.proofs.Searches.{any-same}
+use Rattle.check_inequality.proofs.Searches.{any-same, any-places}
 use Rattle.check_state.specs.States.{Wf, stateOf, facts, entries, kindAt, permissionAt, permissionsIn, permissionsOf, isPathAt, leftAt, pathAtEntry, IsKind}
 use Rattle.check_state.specs.Questions.{places}
 use Rattle.check_state.proofs.Entries.{path-kind}
@@ -30,7 +30,7 @@ use Rattle.check_successors.specs.Successors.{Drops}
 use Rattle.check_entries.specs.Entries.{kept, kindLeft, leftOf, LeftFits, StoredLeft, OutBy, Packed}
 use Rattle.check_entries.specs.PathsOut.{keptNames, pathOut, pathOutAt, keyDropped, droppedAt, OutMarked}
 use Rattle.check_entries.proofs.Halves.{stored-left}
-use Rattle.check_entries.proofs.Keeping.{kept-any}
+use Rattle.check_entries.proofs.Keeping.{kept-all, kept-any}
 use Rattle.check_scans.specs.Scans.{Scanned, markedKey}
 use Rattle.check_scans.proofs.Scanning.{scanned-less, unmarked-kept}
 use Rattle.check_dropping.specs.Dropping.{Forgettable, Forgot}
@@ -161,6 +161,9 @@ module _ (b : List ℕ) (out : List Bool) where
   pub kept-out : (key : List ℕ) → Wf key b → false ≡ any (droppedAt b out (entries b)) (places (entries b)) → ForgotOut key b out key b
   kept-out key w e = record { wf = w; facts = sym (keeps-facts (stateOf key b) e); rest = λ i g s. refl }
 
+  pub nothing-out : (key : List ℕ) → Wf key b → ((i : ℕ) → i < entries b → getD out i false ≡ false) → ForgotOut key b out key b
+  nothing-out key w h = kept-out key w (sym (any-places _ (λ i. i) (entries b) (λ i l. rw (h i l))))
+
   pub dropped-out :
       (key key₁ b₁ : List ℕ) → true ≡ any (droppedAt b out (entries b)) (places (entries b)) → Forgot (keyDropped b out) key b out 255 key₁ b₁ → ForgotOut key b out key₁ b₁
   dropped-out key key₁ b₁ e F =
@@ -180,6 +183,12 @@ module _ (b : List ℕ) (out : List Bool) where
           dropped-out key key b (sym e)
           (scanned-forgot (keyDropped b out) key b i (scanned-less (markedKey marks) (keyDropped b out) key b i (λ k d. unmarked-kept b out marks k M d) S) w h out 255)
       go false e = kept-out key w (sym e)
+
+-- where none is out, all stay
+pub packed-all :
+    (b : List ℕ) (out : List Bool) → length b ≡ bytes → entries b ≤ most-permissions → ((i : ℕ) → i < entries b → getD out i false ≡ false) → Packed b out b
+packed-all b out l f h =
+    record { size = l; few = f; kinds = λ k. k; entries = sym (kept-all out (permissionAt b) (entries b) h); rest = λ i g. refl }
 
 module _ (key b left : List ℕ) (w : Wf key b) (L : LeftFits b left) (b₁ : List ℕ) (out : List Bool) (S : StoredLeft b left most-permissions b₁) (O : OutBy left most-permissions out) where
   low : (i : ℕ) → i < kinds-at → getD b₁ i 0 ≡ getD b i 0

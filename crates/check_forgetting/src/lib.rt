@@ -90,8 +90,12 @@ pub fn remainder(
     ensures { λ _. ⌜ Becomes (Rules.remainder (stateOf (now (key .entry)) (now (b .entry))) (leftOf (now (b .entry)) (now (left .entry)))) (now (key .exit)) (now (b .exit)) ⌝ }
 {
     let out = check_entries::store_left(b, left);
-    forget_out(key, b, &out);
-    check_entries::pack(b, &out);
+    let p = b[State::ENTRIES] as usize;
+    let first = check_entries::first_out(&out, p);
+    if first < p {
+        forget_out(key, b, &out);
+        check_entries::pack(b, &out, first);
+    }
 }
 
 // The listed path of entry i, whose key is k, is dropped, though it stays listed.
@@ -112,7 +116,8 @@ fn erase(key: &mut [u64; State::SLOTS], b: &mut [u8; State::BYTES], x: u8)
     let p = b[State::ENTRIES] as usize;
     let out = check_entries::entries_of(b, p, x);
     check_dropping::drop_names(key, b, &out, x);
-    check_entries::pack(b, &out);
+    let first = check_entries::first_out(&out, p);
+    check_entries::pack(b, &out, first);
 }
 
 // The variable `to` takes the place of x.

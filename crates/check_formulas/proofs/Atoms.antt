@@ -1,11 +1,12 @@
 -- Atoms of the tables, and formulas atom by atom.
 use mathlib.Core.Path.{_≡_, refl, sym, ap, ap₂, _∙_}
-use mathlib.Core.Bool.{Bool, true, false}
+use mathlib.Core.Bool.{Bool, true, false, not, cond}
 use mathlib.Core.List.{List, [], _∷_, map}
 use mathlib.Core.Logic.{inr}
 use Prim.Native.Nat.{ℕ, suc, _+_, _-_, _≤_, _<_}
 use native.Mathlib.Omega.{arith}
-use borrow.Author.Tests.{lt-ltb, le-ltb, ne-eqb}
+use lib.Dec.{eqb}
+use borrow.Author.Tests.{lt-ltb, le-ltb}
 use types.Run.{OneOf, miss}
 use denote.Enum.Declared.{tagOf}
 use Rattle.rules.specs.Base.{Try, ok, no, _>>=_, _>>_, check}
@@ -16,7 +17,9 @@ use Rattle.rules.specs.State as Rules
 use Rattle.rules.specs.State.{Permission, Equality, equalIn, showFrom}
 use Rattle.rules.specs.Rules.{actual, substTerm, substAtom}
 use Rattle.tables.specs.Numbers.{eq-atom}
-use Rattle.tables.specs.Decode.{run, isPermission, relOf, atomKindAt, leftAt, rightAt, atomAt, atomsFrom}
+use Rattle.tables.specs.Decode.{run, isPermission, permitOf, relOf, atomKindAt, accVariableAt, accFieldAt, leftAt, rightAt, atomAt, atomsFrom}
+use Rattle.check_equality.specs.Links as Links
+use Rattle.check_state.specs.States as States
 use Rattle.check_state.specs.States.{Wf, stateOf, entries, kindAt, permissionsOf}
 use Rattle.check_state.specs.Questions.{Bytes}
 use Rattle.check_entries.specs.Entries.{LeftFits, leftOf}
@@ -24,24 +27,29 @@ use Rattle.check_entries.proofs.Halves.{all-left}
 use Rattle.check_entailment.specs.declared.Answer.{Answer}
 use Rattle.check_entailment.proofs.Answer.{the-type}
 use Rattle.check_entailment.specs.Answers.{answered, ShowsAtom, Adds, AddsAtom}
-use Rattle.check_formulas.specs.Formulas.{formula, accessAt, Shows, Showing}
+use Rattle.check_formulas.specs.Formulas.{actualAtom, formula, Shows, Showing}
+
+-- `eq` by its number
+pub relation : (k : ℕ) → Links.relOf (not (eqb k eq-atom)) ≡ relOf k
+unfolding Links.relOf relOf
+relation k = go (eqb k eq-atom)
+  where
+    go : (c : Bool) → cond (not c) ne eq ≡ cond c eq ne
+    go true = refl
+    go false = refl
 
 module _ (w : List ℕ) (y z x a : ℕ) where
-  pub atom-access : (k : ℕ) → k ≡ atomKindAt w a → k < eq-atom → accessAt w y z x a k ≡ substAtom (actual y z x) (atomAt w a)
-  unfolding accessAt atomAt isPermission
-  atom-access k e h = rw (← e, lt-ltb k eq-atom h)
+  pub atom-own :
+      (k kind v f : ℕ) → k ≡ atomKindAt w a → k < eq-atom → States.permitOf kind ≡ permitOf k → v ≡ actual y z x (accVariableAt w a) → f ≡ accFieldAt w a →
+      own (States.permitOf kind) v f ≡ actualAtom w y z x a
+  unfolding atomAt isPermission substAtom
+  atom-own k kind v f e h p d g = rw (p, d, g, ← e, lt-ltb k eq-atom h)
 
-  pub atom-eq :
-      (k : ℕ) → k ≡ atomKindAt w a → k ≡ eq-atom →
-      cmp eq (substTerm (actual y z x) (leftAt w a)) (substTerm (actual y z x) (rightAt w a)) ≡ substAtom (actual y z x) (atomAt w a)
-  unfolding atomAt isPermission substAtom relOf
-  atom-eq k e d = rw (← e, d)
-
-  pub atom-ne :
-      (k : ℕ) → k ≡ atomKindAt w a → eq-atom ≤ k → (k ≡ eq-atom → ⊥) →
-      cmp ne (substTerm (actual y z x) (leftAt w a)) (substTerm (actual y z x) (rightAt w a)) ≡ substAtom (actual y z x) (atomAt w a)
-  unfolding atomAt isPermission substAtom relOf
-  atom-ne k e h n = rw (← e, le-ltb k eq-atom h, ne-eqb k eq-atom n)
+  pub atom-relation :
+      (k : ℕ) (apart : Bool) (l r : Rules.Term) → k ≡ atomKindAt w a → eq-atom ≤ k → apart ≡ not (eqb k eq-atom) → l ≡ substTerm (actual y z x) (leftAt w a) →
+      r ≡ substTerm (actual y z x) (rightAt w a) → cmp (Links.relOf apart) l r ≡ actualAtom w y z x a
+  unfolding atomAt isPermission substAtom
+  atom-relation k apart l r e h p d g = rw (p, d, g, ← e, le-ltb k eq-atom h, relation k)
 
 module _ (w : List ℕ) (y z x : ℕ) where
   pub formula-none : (a : ℕ) → formula w y z x a 0 ≡ []

@@ -2,11 +2,11 @@
 use mathlib.Core.Path.{_≡_}
 use mathlib.Core.List.{List, map}
 use Prim.Native.Nat.{ℕ}
-use Rattle.rules.specs.Syntax.{Atom, Formula, own}
+use Rattle.rules.specs.Syntax.{Atom, Formula}
 use Rattle.rules.specs.State as Rules
 use Rattle.rules.specs.State.{equalIn, showFrom}
 use Rattle.rules.specs.Rules.{actual, substAtom}
-use Rattle.tables.specs.Decode.{permitOf, accVariableAt, accFieldAt, atomsFrom}
+use Rattle.tables.specs.Decode.{atomAt, atomsFrom}
 use Rattle.check_entailment.specs.declared.Answer.{Answer}
 use Rattle.check_state.specs.States.{stateOf}
 use Rattle.check_entries.specs.Entries.{leftOf}
@@ -15,6 +15,10 @@ use Rattle.check_entailment.specs.Answers.{answered}
 -- the bytes of a side
 abbrev pub side-bytes : ℕ
 side-bytes = 4
+
+-- the atom a, with y, z and x for `this`, w and `result`
+abbrev pub actualAtom : List ℕ → ℕ → ℕ → ℕ → ℕ → Atom ℕ
+actualAtom w y z x a = substAtom (actual y z x) (atomAt w a)
 
 -- n atoms from the atom a on, with y, z and x for `this`, w and `result`
 unfoldable pub formula : List ℕ → ℕ → ℕ → ℕ → ℕ → ℕ → Formula ℕ
@@ -27,7 +31,3 @@ Shows key b φ answer left = answered answer (leftOf b left) ≡ Rules.show (sta
 -- what is still to show, by what is left of the entries
 abbrev pub Showing : List ℕ → List ℕ → Formula ℕ → Formula ℕ → List ℕ → Type 0
 Showing key b φ rest left = showFrom (equalIn (stateOf key b)) (stateOf key b) rest (leftOf b left) ≡ Rules.show (stateOf key b) φ
-
--- the permission at the atom a, of the kind k
-unfoldable pub accessAt : List ℕ → ℕ → ℕ → ℕ → ℕ → ℕ → Atom ℕ
-accessAt w y z x a k = substAtom (actual y z x) (own (permitOf k) (accVariableAt w a) (accFieldAt w a))

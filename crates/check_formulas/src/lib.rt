@@ -1,26 +1,26 @@
 // Formulas of the tables shown and added, also with a call's actual names.
 use check_entailment::Answer;
-use check_entailment::Atom;
-use check_entailment::Shown;
 use check_equality::State;
 use check_equality::Term;
+use rules::Machine;
 use tables::AtomKind;
 use tables::Layout;
 ghost use mathlib.Core.Path.{_≡_};
 ghost use Prim.Native.Nat.{_+_, _≤_, _<_};
 ghost use lib.ListN.{length};
-ghost use Rattle.rules.specs.Limits.{work-bytes};
-ghost use Rattle.rules.specs.Syntax.{own};
+ghost use Rattle.rules.specs.Limits.{work-bytes, most-permissions};
 ghost use Rattle.rules.specs.State as Rules;
-ghost use Rattle.rules.specs.Rules.{substTerm, substAtom};
+ghost use Rattle.rules.specs.Rules.{substTerm};
 ghost use Rattle.rules.specs.Rules as Rule;
 ghost use Rattle.tables.specs.Layout.{most-atom-rows};
-ghost use Rattle.tables.specs.Decode.{exprAt, leftAt, rightAt, atomAt, permitOf};
+ghost use Rattle.tables.specs.Decode.{exprAt, leftAt, rightAt, accVariableAt, accFieldAt, permitOf};
 ghost use Rattle.check_equality.specs.Keys.{meaning};
-ghost use Rattle.check_state.specs.States.{Wf, stateOf};
+ghost use Rattle.check_state.specs.States as States;
+ghost use Rattle.check_state.specs.States.{Wf, stateOf, kindAt, IsKind};
+ghost use Rattle.check_state.specs.Questions.{Bytes};
 ghost use Rattle.check_entries.specs.Entries.{LeftFits};
-ghost use Rattle.check_entailment.specs.Answers.{atomOf, Adds};
-ghost use Rattle.check_formulas.specs.Formulas.{side-bytes, formula, accessAt, Shows};
+ghost use Rattle.check_entailment.specs.Answers.{Adds, ShowsAtom, AddsAtom};
+ghost use Rattle.check_formulas.specs.Formulas.{side-bytes, formula, actualAtom, Shows};
 
 // An atom of the tables: its kind (`AtomKind`), the tags of its sides, and the sides.
 const LEFT_TAG: usize = 1;
@@ -86,42 +86,60 @@ pub fn right(w: &[u8], a: usize, y: u8, z: u8, x: u8) -> Term
     side(w, tag, i + RIGHT, y, z, x)
 }
 
-// The permission of the kind k to x.f.
-fn permission(k: usize, x: u8, f: u8) -> Atom
-    ensures { λ r. ⌜ atomOf r ≡ own (permitOf k) x f ⌝ }
+// The variable of the permission at the atom a.
+fn variable(w: &[u8], a: usize, y: u8, z: u8, x: u8) -> u8
+    requires { ⌜ (length (now w) ≡ work-bytes) × (a < most-atom-rows) ⌝ }
+    ensures { λ r. ⌜ r ≡ Rule.actual y z x (accVariableAt (now (w .entry)) a) ⌝ }
+{
+    let i = Layout::ATOMS + a * Layout::ATOM_BYTES;
+    actual(y, z, x, w[i + LEFT])
+}
+
+// Its field.
+fn field(w: &[u8], a: usize) -> u8
+    requires { ⌜ (length (now w) ≡ work-bytes) × (a < most-atom-rows) ⌝ }
+    ensures { λ r. ⌜ r ≡ accFieldAt (now (w .entry)) a ⌝ }
+{
+    let i = Layout::ATOMS + a * Layout::ATOM_BYTES;
+    w[i + LEFT_FIELD]
+}
+
+// The kind of an entry for the permission of the kind k of atoms.
+fn kind_of(k: usize) -> u8
+    ensures { λ r. ⌜ IsKind r × (States.permitOf r ≡ permitOf k) ⌝ }
 {
     match k {
-        AtomKind::ACC => Atom::Acc(x, f),
-        AtomKind::CHAIN => Atom::Chain(x, f),
-        _ => Atom::Read(x, f),
+        AtomKind::ACC => State::ACC,
+        AtomKind::CHAIN => State::CHAIN,
+        _ => State::READ,
     }
 }
 
-// The permission at the atom a, whose kind is k.
-fn access(w: &[u8], a: usize, k: usize, y: u8, z: u8, x: u8) -> Atom
-    requires { ⌜ (length (now w) ≡ work-bytes) × (a < most-atom-rows) ⌝ }
-    ensures { λ r. ⌜ atomOf r ≡ accessAt (now (w .entry)) y z x a k ⌝ }
-{
-    let i = Layout::ATOMS + a * Layout::ATOM_BYTES;
-    permission(k, actual(y, z, x, w[i + LEFT]), w[i + LEFT_FIELD])
-}
-
-// The atom a.
-pub fn atom(w: &[u8], a: usize, y: u8, z: u8, x: u8) -> Atom
-    requires { ⌜ (length (now w) ≡ work-bytes) × (a < most-atom-rows) ⌝ }
-    ensures { λ r. ⌜ atomOf r ≡ substAtom (Rule.actual y z x) (atomAt (now (w .entry)) a) ⌝ }
+// Shows the atom a, by what is left of the entries.
+fn show_at<'a>(
+    w: &'a [u8],
+    a: usize,
+    y: u8,
+    z: u8,
+    x: u8,
+    key: &'a [u64; State::SLOTS],
+    b: &'a [u8; State::BYTES],
+    left: &mut [u8; Machine::PERMISSIONS],
+) -> Answer
+    requires { ⌜ (length (now w) ≡ work-bytes) × (a < most-atom-rows) × Wf (now key) (now b) × LeftFits (now b) (now left) ⌝ }
+    ensures { λ r. ⌜ LeftFits (now (b .entry)) (now (left .exit)) × ShowsAtom (now (key .entry)) (now (b .entry)) (now (left .entry)) (actualAtom (now (w .entry)) y z x a) r (now (left .exit)) ⌝ }
 {
     let k = tables::atom_kind(w, a);
     if k < AtomKind::EQ {
-        return access(w, a, k, y, z, x);
+        let v = variable(w, a, y, z, x);
+        return check_entailment::show_access(key, b, left, kind_of(k), v, field(w, a));
     }
-    if k == AtomKind::EQ {
-        return Atom::Eq(left(w, a, y, z, x), right(w, a, y, z, x));
-    }
-    Atom::Ne(left(w, a, y, z, x), right(w, a, y, z, x))
+    let apart = k != AtomKind::EQ;
+    let l = crate::left(w, a, y, z, x);
+    check_entailment::show_relation(key, b, apart, l, right(w, a, y, z, x))
 }
 
-// Shows n atoms from the atom a on, and says what is left of the entries then.
+// Shows n atoms from the atom a on. `left` has the kinds of the entries, and what is left of each then.
 pub fn show<'a>(
     w: &'a [u8],
     a: usize,
@@ -131,25 +149,43 @@ pub fn show<'a>(
     x: u8,
     key: &'a [u64; State::SLOTS],
     b: &'a [u8; State::BYTES],
-) -> Shown
-    requires { ⌜ (length (now w) ≡ work-bytes) × (a + n ≤ most-atom-rows) × Wf (now key) (now b) ⌝ }
-    ensures { λ r. ⌜ LeftFits (now (b .entry)) (r .left) × Shows (now (key .entry)) (now (b .entry)) (formula (now (w .entry)) y z x a n) (r .answer) (r .left) ⌝ }
+    left: &mut [u8; Machine::PERMISSIONS],
+) -> Answer
+    requires { ⌜ (length (now w) ≡ work-bytes) × (a + n ≤ most-atom-rows) × Wf (now key) (now b) × Bytes (kindAt (now b)) most-permissions (now left) ⌝ }
+    ensures { λ r. ⌜ LeftFits (now (b .entry)) (now (left .exit)) × Shows (now (key .entry)) (now (b .entry)) (formula (now (w .entry)) y z x a n) r (now (left .exit)) ⌝ }
 {
-    let mut left = check_state::kinds(b);
     let mut i = 0;
     while i < n {
-        let r = check_entailment::show_atom(key, b, left, atom(w, a + i, y, z, x));
-        let k = r.answer;
-        left = r.left;
+        let k = show_at(w, a + i, y, z, x, key, b, left);
         let Answer::Done = k else {
-            return Shown { answer: k, left };
+            return k;
         };
         i += 1;
     }
-    Shown {
-        answer: Answer::Done,
-        left,
+    Answer::Done
+}
+
+// Adds the atom a.
+fn add_at(
+    w: &[u8],
+    a: usize,
+    y: u8,
+    z: u8,
+    x: u8,
+    key: &mut [u64; State::SLOTS],
+    b: &mut [u8; State::BYTES],
+) -> Answer
+    requires { ⌜ (length (now w) ≡ work-bytes) × (a < most-atom-rows) × Wf (now key) (now b) ⌝ }
+    ensures { λ r. ⌜ AddsAtom (now (key .entry)) (now (b .entry)) (actualAtom (now (w .entry)) y z x a) r (now (key .exit)) (now (b .exit)) ⌝ }
+{
+    let k = tables::atom_kind(w, a);
+    if k < AtomKind::EQ {
+        let v = variable(w, a, y, z, x);
+        return check_entailment::add_own(key, b, kind_of(k), v, field(w, a));
     }
+    let apart = k != AtomKind::EQ;
+    let l = left(w, a, y, z, x);
+    check_entailment::add_relation(key, b, apart, l, right(w, a, y, z, x))
 }
 
 // Adds n atoms from the atom a on.
@@ -168,7 +204,7 @@ pub fn add(
 {
     let mut i = 0;
     while i < n {
-        let k = check_entailment::add_atom(key, b, atom(w, a + i, y, z, x));
+        let k = add_at(w, a + i, y, z, x, key, b);
         let Answer::Done = k else {
             return k;
         };

@@ -14,7 +14,7 @@ use Rattle.rules.proofs.Lists.{decide-eq}
 use Rattle.check_equality.specs.Keys.{termOf}
 use Rattle.check_equality.specs.Listing.{listed}
 use Rattle.check_equality.proofs.Listing.{any-append, listed-more, or-true}
-use Rattle.check_inequality.proofs.Searches.{any-false}
+use Rattle.check_inequality.proofs.Searches.{any-false, any-places}
 
 shuffle : (a x b c : Bool) → ((a || (x || false)) || (b || c)) ≡ ((a || b) || (x || c))
 shuffle true x b c = refl
@@ -81,6 +81,56 @@ module _ (_~_ : Equality) (t u : ℕ) where
       none true true false false = refl
       none true false b c = refl
       none false x b c = refl
+
+  -- an entry with one before it, neither of a variable ~ the one term
+  apart-t : (p q : Permission) → (var (p .variable) ~ termOf t) ≡ false → (var (q .variable) ~ termOf t) ≡ false → differ _~_ p q (termOf t) (termOf u) ≡ false
+  unfolding differ links
+  apart-t p q e d = rw (e, d) (none (eqb (p .field) (q .field)) (exceed (p .permit) (q .permit)) (var (p .variable) ~ termOf u))
+    where
+      none : (a x c : Bool) → (a && (x && (c && false))) ≡ false
+      none true true true = refl
+      none true true false = refl
+      none true false c = refl
+      none false x c = refl
+
+  apart-u : (p q : Permission) → (var (p .variable) ~ termOf u) ≡ false → (var (q .variable) ~ termOf u) ≡ false → differ _~_ p q (termOf t) (termOf u) ≡ false
+  unfolding differ links
+  apart-u p q e d = rw (e, d) (none (eqb (p .field) (q .field)) (exceed (p .permit) (q .permit)) (var (p .variable) ~ termOf t))
+    where
+      none : (a x c : Bool) → (a && (x && ((c && false) || false))) ≡ false
+      none true true true = refl
+      none true true false = refl
+      none true false c = refl
+      none false x c = refl
+
+  two-places :
+      (f : ℕ → Permission) (n : ℕ) → ((i j : ℕ) → i < n → j < i → differ _~_ (f j) (f i) (termOf t) (termOf u) ≡ false) →
+      twoEntries _~_ (listed f n) (termOf t) (termOf u) ≡ false
+  two-places f zero h = two-none f
+  two-places f (suc n) h =
+      let e : n + 1 ≡ suc n = omega arith in
+      rw e at (two-past f n (two-places f n (λ i j k l. h i j (omega arith) l)) (any-places _ f n (λ j l. h n j (omega arith) l)))
+
+  -- no entry is of a variable ~ the one term
+  pub two-without-t :
+      (f : ℕ → Permission) (n : ℕ) → ((i : ℕ) → i < n → (var (f i .variable) ~ termOf t) ≡ false) → twoEntries _~_ (listed f n) (termOf t) (termOf u) ≡ false
+  two-without-t f n h = two-places f n (λ i j k l. apart-t (f j) (f i) (h j (omega arith)) (h i k))
+
+  pub two-without-u :
+      (f : ℕ → Permission) (n : ℕ) → ((i : ℕ) → i < n → (var (f i .variable) ~ termOf u) ≡ false) → twoEntries _~_ (listed f n) (termOf t) (termOf u) ≡ false
+  two-without-u f n h = two-places f n (λ i j k l. apart-u (f j) (f i) (h j (omega arith)) (h i k))
+
+  -- entries of variables that are ~ neither
+  pub two-unnamed :
+      (f : ℕ → Permission) (q : Permission) (n : ℕ) → ((i : ℕ) → i < n → (var (f i .variable) ~ termOf t) ≡ false) →
+      ((i : ℕ) → i < n → (var (f i .variable) ~ termOf u) ≡ false) → any (λ p. differ _~_ p q (termOf t) (termOf u)) (listed f n) ≡ false
+  unfolding differ links
+  two-unnamed f q n h g = any-places _ f n (λ i l. rw (h i l, g i l) (none (eqb (f i .field) (q .field)) (exceed (f i .permit) (q .permit))))
+    where
+      none : (a x : Bool) → (a && (x && false)) ≡ false
+      none true true = refl
+      none true false = refl
+      none false x = refl
 
   pub pair-links :
       (k l : Permission) (p q : Bool) → k .field ≡ l .field → true ≡ exceed (k .permit) (l .permit) → p ≡ (var (l .variable) ~ termOf t) → q ≡ (var (l .variable) ~ termOf u) →

@@ -2,7 +2,7 @@
 use mathlib.Core.Path.{_≡_, refl, sym, ap, ap₂, _∙_}
 use mathlib.Core.Bool.{Bool, true, false, cond, _&&_, _||_}
 use mathlib.Core.List.{List, [], _∷_}
-use mathlib.Core.Logic.{inl}
+use mathlib.Core.Logic.{inl, ⊎-elim}
 use Prim.Native.Nat.{ℕ, zero, suc, _+_, _*_, _≤_, _<_}
 use native.Mathlib.Omega.{arith}
 use lib.Dec.{eqb}
@@ -12,12 +12,13 @@ use Rattle.rules.specs.Base.{any}
 use Rattle.rules.specs.Limits.{most-facts}
 use Rattle.rules.specs.Syntax.{null}
 use Rattle.rules.specs.State.{Fact, Term, representative, equalBy, links, listedUnequal, isNe}
-use Rattle.check_equality.specs.Layout.{slots}
+use Rattle.rules.proofs.Lists.{decide-eq}
+use Rattle.check_equality.specs.Layout.{slots, relations-at}
 use Rattle.check_equality.specs.Keys.{termOf}
 use Rattle.check_equality.specs.Listing.{listed}
 use Rattle.check_equality.specs.Links.{Labelled, Decides, termAt, alikeBy, relOf}
 use Rattle.check_equality.proofs.Keys.{of-null}
-use Rattle.check_equality.proofs.Listing.{any-append}
+use Rattle.check_equality.proofs.Listing.{any-append, any-none, any-past}
 use Rattle.check_equality.proofs.Labels.{alike}
 use Rattle.check_state.specs.States.{apartAt, factAt, factsIn}
 use Rattle.check_state.specs.Questions.{Slots, places}
@@ -40,6 +41,19 @@ unfolding any
 any-false p [] h = refl
 any-false p (a ∷ l) h = ap₂ (λ (x y : Bool). x || y) (h a) (any-false p l h)
 
+pub any-places : {A : Type 0} (p : A → Bool) (f : ℕ → A) (n : ℕ) → ((i : ℕ) → i < n → p (f i) ≡ false) → any p (listed f n) ≡ false
+any-places p f zero h = any-none p f
+any-places p f (suc n) h = let e : n + 1 ≡ suc n = omega arith in rw e at (any-past p f n (any-places p f n (λ i k. h i (omega arith))) (h n (omega arith)))
+
+pub any-on : {A : Type 0} (p : A → Bool) (f : ℕ → A) (m n : ℕ) → m ≤ n → any p (listed f m) ≡ true → any p (listed f n) ≡ true
+unfolding listed
+any-on p f m zero h e = let d : m ≡ 0 = omega arith in rw d at e
+any-on p f m (suc n) h e =
+    ⊎-elim (λ d. rw d at e) (λ d. any-append p (listed f n) (f n ∷ []) ∙ rw (any-on p f m n (omega arith) e)) (decide-eq m (suc n))
+
+true-is-not : _≡_ {A = Bool} true false → ⊥
+true-is-not e = let z : _≡_ {A = ℕ} 0 1 = cc in omega arith
+
 pub or-none-left : (a b : Bool) → (a || b) ≡ false → a ≡ false
 or-none-left true b e = e
 or-none-left false b e = refl
@@ -47,6 +61,46 @@ or-none-left false b e = refl
 pub or-none-right : (a b : Bool) → (a || b) ≡ false → b ≡ false
 or-none-right true b e = absurd (let z : _≡_ {A = ℕ} 0 1 = cc in omega arith)
 or-none-right false b e = e
+
+eight-none :
+    (a b c d e f g h : Bool) → (((((((a || b) || c) || d) || e) || f) || g) || h) ≡ false →
+    (a ≡ false) × (b ≡ false) × (c ≡ false) × (d ≡ false) × (e ≡ false) × (f ≡ false) × (g ≡ false) × (h ≡ false)
+eight-none false false false false false false false false p = (refl, refl, refl, refl, refl, refl, refl, refl)
+eight-none true b c d e f g h p = absurd (true-is-not p)
+eight-none false true c d e f g h p = absurd (true-is-not p)
+eight-none false false true d e f g h p = absurd (true-is-not p)
+eight-none false false false true e f g h p = absurd (true-is-not p)
+eight-none false false false false true f g h p = absurd (true-is-not p)
+eight-none false false false false false true g h p = absurd (true-is-not p)
+eight-none false false false false false false true h p = absurd (true-is-not p)
+eight-none false false false false false false false true p = absurd (true-is-not p)
+
+-- (a) eight facts that are equalities
+module _ (b : List ℕ) (x y : ℕ) where
+  abbrev None : ℕ → Type 0
+  None i = any (unequalIn b x y) (places i) ≡ false
+
+  abbrev apart : ℕ → Bool
+  apart i = eqb (getD b (relations-at + i) 0) 1
+
+  equal-past : (i j : ℕ) → j ≡ i + 1 → apart i ≡ false → None i → None j
+  unfolding unequalAt
+  equal-past i j d e h = rw d (any-past (unequalIn b x y) (λ i. i) i h (rw e))
+
+  pub equal-block :
+      (i : ℕ) → None i →
+      (((((((apart i || apart (i + 1)) || apart (i + 2)) || apart (i + 3)) || apart (i + 4)) || apart (i + 5)) || apart (i + 6)) || apart (i + 7)) ≡ false →
+      None (i + 8)
+  equal-block i h e =
+      let n = eight-none (apart i) (apart (i + 1)) (apart (i + 2)) (apart (i + 3)) (apart (i + 4)) (apart (i + 5)) (apart (i + 6)) (apart (i + 7)) e in
+      equal-past (i + 7) (i + 8) (omega arith) (n .7)
+      (equal-past (i + 6) (i + 7) (omega arith) (n .6)
+      (equal-past (i + 5) (i + 6) (omega arith) (n .5)
+      (equal-past (i + 4) (i + 5) (omega arith) (n .4)
+      (equal-past (i + 3) (i + 4) (omega arith) (n .3)
+      (equal-past (i + 2) (i + 3) (omega arith) (n .2)
+      (equal-past (i + 1) (i + 2) (omega arith) (n .1)
+      (equal-past i (i + 1) (omega arith) (n .0) h)))))))
 
 -- (c)
 pub null-like :

@@ -58,7 +58,11 @@ unfoldable pub twoNumbers : List ℕ → List ℕ → ℕ → ℕ → ℕ → �
 twoNumbers key label n t a u b i =
     numberLike (getD key (terms-at + i) 0) (getD label (terms-at + i) 0) t a && otherNumber key label n u b (getD key (terms-at + i) 0)
 
--- (d) r tells this of the entries j and i, where p and q say whether the variable of i is ~ t and ~ u
+-- (d) the variable of entry i is ~ the term of k
+abbrev pub namedAt : List ℕ → ℕ → Equality → ℕ → Bool
+namedAt b k same i = same (var (variableAt b i)) (termOf k)
+
+-- r tells this of the entries j and i, where p and q say whether the variable of i is ~ t and ~ u
 abbrev pub PairTold : List ℕ → ℕ → ℕ → ℕ → ℕ → Bool → Bool → Bool → Equality → Type 0
 PairTold b t u j i p q r same =
     p ≡ same (var (variableAt b i)) (termOf t) → q ≡ same (var (variableAt b i)) (termOf u) →

@@ -1,13 +1,15 @@
 // The ways (a) to (d) of showing an inequality.
+mod by_facts;
 mod by_numbers;
 
 pub use by_numbers::number_like;
 use check_equality::State;
 ghost use mathlib.Core.Path.{_≡_};
 ghost use mathlib.Core.Bool.{true, _&&_};
+ghost use mathlib.Core.Logic.{_⊎_};
 ghost use Prim.Native.Nat.{_≤_, _<_};
 ghost use Rattle.rules.specs.Base.{any};
-ghost use Rattle.rules.specs.Limits.{most-permissions, most-facts};
+ghost use Rattle.rules.specs.Limits.{most-permissions};
 ghost use Rattle.rules.specs.Syntax as Syntax;
 ghost use Rattle.rules.specs.Syntax.{var, isPath};
 ghost use Rattle.rules.specs.State as Rules;
@@ -15,45 +17,8 @@ ghost use Rattle.rules.specs.State.{nullAndObject, twoEntries, equalIn, holdsIn
 ghost use Rattle.check_equality.specs.Keys.{termOf, first-number};
 ghost use Rattle.check_equality.specs.Links.{Labelled, relOf};
 ghost use Rattle.check_state.specs.States.{Wf, stateOf, permissionsIn, permitOf};
-ghost use Rattle.check_state.specs.Questions.{Slots, Told, places};
-ghost use Rattle.check_inequality.specs.Ways.{eitherWay, unequalAt, unequalIn, PairTold};
-
-fn either_way(x: u8, y: u8, a: u8, b: u8) -> bool
-    ensures { λ r. ⌜ r ≡ eitherWay x y a b ⌝ }
-{
-    ((x == a) & (y == b)) | ((x == b) & (y == a))
-}
-
-fn unequal_at(c: u8, x: u8, y: u8, a: u8, b: u8) -> bool
-    ensures { λ r. ⌜ r ≡ unequalAt c x y a b ⌝ }
-{
-    if c == State::UNEQUAL {
-        either_way(x, y, a, b)
-    } else {
-        false
-    }
-}
-
-// (a) Is an inequality listed whose sides have the labels x and y?
-fn listed_unequal(b: &[u8; State::BYTES], n: usize, x: u8, y: u8) -> bool
-    requires { ⌜ n ≤ most-facts ⌝ }
-    ensures { λ r. ⌜ r ≡ any (unequalIn (now (b .entry)) x y) (places n) ⌝ }
-{
-    let mut i = 0;
-    while i < n {
-        if unequal_at(
-            b[State::RELATIONS + i],
-            b[State::LEFT + 2 * i],
-            b[State::RIGHT + 2 * i],
-            x,
-            y,
-        ) {
-            return true;
-        }
-        i += 1;
-    }
-    false
-}
+ghost use Rattle.check_state.specs.Questions.{Slots, Told, FirstPlace};
+ghost use Rattle.check_inequality.specs.Ways.{namedAt, PairTold};
 
 // Is an entry of x with the kind c a listed path, and x ~ the term of k?
 fn is_object<'a>(
@@ -159,8 +124,42 @@ fn pair<'a>(
     false
 }
 
+// The first entry of a variable ~ the term of k, or n.
+fn first_named<'a>(
+    key: &'a [u64; State::SLOTS],
+    b: &'a [u8; State::BYTES],
+    m: usize,
+    n: usize,
+    k: u64,
+    a: u8,
+) -> usize
+    requires { ⌜ Slots (now key) (now b) m × Labelled (now key) (now b) m k a × (n ≤ most-permissions) ⌝ }
+    ensures { λ r. ⌜ (r ≤ n) × Told (now (key .entry)) (now (b .entry)) m (λ same. FirstPlace (namedAt (now (b .entry)) k same) n r) ⌝ }
+{
+    let mut i = 0;
+    while i < n {
+        if check_state::variable_is(key, b, m, b[State::VARIABLES + i], k, a) {
+            return i;
+        }
+        i += 1;
+    }
+    n
+}
+
+fn earlier(i: usize, j: usize) -> usize
+    ensures { λ r. ⌜ (r ≤ i) × (r ≤ j) ⌝ }
+{
+    if i < j { i } else { j }
+}
+
+fn later(i: usize, j: usize) -> usize
+    ensures { λ r. ⌜ (i ≤ r) × ((r ≡ i) ⊎ (r ≡ j)) ⌝ }
+{
+    if i < j { j } else { i }
+}
+
 // (d) Are the terms of t and u ~ the variables of two entries for one field, one of them an `acc`? Only an entry whose variable is ~ to one of them is
-// tried with those before it.
+// tried with those before it, and none before both terms had one.
 fn two_entries<'a>(
     key: &'a [u64; State::SLOTS],
     b: &'a [u8; State::BYTES],
@@ -174,13 +173,16 @@ fn two_entries<'a>(
     requires { ⌜ Slots (now key) (now b) m × Labelled (now key) (now b) m t x × Labelled (now key) (now b) m u y × (n ≤ most-permissions) ⌝ }
     ensures { λ r. ⌜ Told (now (key .entry)) (now (b .entry)) m (λ same. r ≡ twoEntries same (permissionsIn (now (b .entry)) n) (termOf t) (termOf u)) ⌝ }
 {
+    let s = first_named(key, b, m, n, t, x);
+    let v = first_named(key, b, m, n, u, y);
+    let first = earlier(s, v);
     let mut found = false;
-    let mut i = 0;
+    let mut i = later(s, v);
     'entries: while i < n {
         let p = check_state::variable_is(key, b, m, b[State::VARIABLES + i], t, x);
         let q = check_state::variable_is(key, b, m, b[State::VARIABLES + i], u, y);
         if p | q {
-            let mut j = 0;
+            let mut j = first;
             while j < i {
                 if pair(key, b, m, j, i, t, x, u, y, p, q) {
                     found = true;
@@ -204,7 +206,7 @@ fn unequal<'a>(key: &'a [u64; State::SLOTS], b: &'a [u8; State::BYTES], t: u64, 
     let p = b[State::ENTRIES] as usize;
     let x = check_equality::label_of(key, b, m, t);
     let y = check_equality::label_of(key, b, m, u);
-    if listed_unequal(b, n, x, y) {
+    if by_facts::listed_unequal(b, n, x, y) {
         return true;
     }
     if null_and_object(key, b, m, p, t, x, u, y) {

@@ -1,6 +1,6 @@
 -- The rule of a row from its operands.
 use mathlib.Core.Path.{_≡_, refl}
-use mathlib.Core.Bool.{Bool, true, false, cond, not, _||_}
+use mathlib.Core.Bool.{Bool, true, false, cond, _||_}
 use mathlib.Core.List.{List}
 use mathlib.Core.Logic.{_⊎_, inl, inr, ⊎-elim}
 use Prim.Native.Nat.{ℕ, _+_, _≤_, _<_}
@@ -21,15 +21,7 @@ use Rattle.tables.proofs.Rows.{class-get, method-get}
 use Rattle.check_equality.specs.Links as Links
 use Rattle.check_rows.specs.Rows.{RowIs}
 
--- `eq` by its number
-pub relation : (k : ℕ) → Links.relOf (not (eqb k eq-atom)) ≡ relOf k
-unfolding Links.relOf relOf
-relation k = go (eqb k eq-atom)
-  where
-    go : (c : Bool) → cond (not c) ne eq ≡ cond c eq ne
-    go true = refl
-    go false = refl
-
+-- the opposite of `eq`, by its number
 pub opposite-relation : (k : ℕ) → Links.relOf (eqb k eq-atom) ≡ opposite (relOf k)
 unfolding Links.relOf relOf opposite
 opposite-relation k = go (eqb k eq-atom)

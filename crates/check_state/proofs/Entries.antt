@@ -1,14 +1,14 @@
 -- The first entry that passes.
-use mathlib.Core.Path.{_≡_, refl, sym, _∙_}
+use mathlib.Core.Path.{_≡_, refl, sym, ap, _∙_}
 use mathlib.Core.Bool.{Bool, true, false, cond}
 use mathlib.Core.List.{List, [], _∷_}
 use mathlib.Core.Option.{none, some}
 use mathlib.Core.Logic.{_⊎_, inl, inr, ⊎-elim}
-use Prim.Native.Nat.{ℕ, zero, suc, _+_, _≤_, _<_}
+use Prim.Native.Nat.{ℕ, zero, suc, _+_, _-_, _≤_, _<_}
 use native.Mathlib.Omega.{arith}
 use lib.Dec.{eqb, ltb, leb}
-use lib.ListN.{getD, set, replicate, getD-replicate, List·getD-eq-default, length-replicate, length-set}
-use lib.Seq.{getD-set-same, getD-set-other}
+use lib.ListN.{length, getD, set, replicate, getD-replicate, List·getD-eq-default, length-replicate, length-set, length-drop}
+use lib.Seq.{getD-set-same, getD-set-other, getD-drop}
 use borrow.Author.Tests.{ne-eqb, eqb-true, lt-ltb, le-leb, lt-leb, ltb-true, ltb-false}
 use Rattle.rules.specs.Base.{ok, no, _>>=_, orElse, first}
 use Rattle.rules.specs.Limits.{most-permissions}
@@ -17,11 +17,11 @@ use Rattle.rules.specs.Syntax.{var, path, acc, read, chain, isPath}
 use Rattle.rules.specs.State as Rules
 use Rattle.rules.specs.State.{Equality, equalIn, equalBy, representative, entryOf, names, pathOf}
 use Rattle.rules.proofs.Lists.{decide-eq}
-use Rattle.check_equality.specs.Layout.{read-kind, acc-kind, chain-kind}
+use Rattle.check_equality.specs.Layout.{read-kind, acc-kind, chain-kind, kinds-at, bytes}
 use Rattle.check_equality.specs.Keys.{termOf}
 use Rattle.check_equality.specs.Listing.{listed}
 use Rattle.check_equality.proofs.Listing.{first-append, first-here, first-found}
-use Rattle.check_state.specs.States.{factsOf, permissionAt, permissionsOf, permitOf, kindAt, IsKind, KindsIn, stateOf, entries}
+use Rattle.check_state.specs.States.{factsOf, permissionAt, permissionsOf, permitOf, kindAt, kindsOf, IsKind, KindsIn, stateOf, entries}
 use Rattle.check_state.specs.Questions.{FirstPlace, Bytes, entryTest, passes, inRange, pathAt, standsFor, variableOr}
 
 pub no-flags : (n i : ℕ) → getD (replicate n false) i false ≡ false
@@ -38,6 +38,10 @@ bytes-more f i r v h B e =
       size = length-set r i v ∙ B .size;
       at = λ j g. ⊎-elim (λ d. rw d (getD-set-same r i v 0 (omega (arith, B .size)) ∙ e)) (λ d. getD-set-other r i j v 0 d ∙ B .at j (omega arith)) (decide-eq j i);
     }
+
+-- the kinds that the entries have
+pub own-kinds : (b : List ℕ) → length b ≡ bytes → Bytes (kindAt b) most-permissions (kindsOf b)
+own-kinds b e = record { size = length-drop kinds-at b ∙ ap (λ (n : ℕ). n - kinds-at) e; at = λ i h. getD-drop kinds-at b i 0 }
 
 pub first-none : {A : Type 0} (p : A → Bool) (f : ℕ → A) (n : ℕ) → ((i : ℕ) → i < n → p (f i) ≡ false) → first p (listed f n) ≡ none
 unfolding first listed

@@ -5,7 +5,7 @@ use mathlib.Core.Bool.{Bool, false, not, cond, _&&_}
 use mathlib.Core.List.{List}
 use Prim.Native.Nat.{ℕ, _+_, _*_, _≤_, _<_}
 use lib.Dec.{eqb, ltb}
-use lib.ListN.{length, getD}
+use lib.ListN.{length, getD, drop}
 use Rattle.rules.specs.Limits.{most-permissions, most-facts}
 use Rattle.rules.specs.Syntax.{Permit, acc, read, chain, path}
 use Rattle.rules.specs.State as Rules
@@ -35,6 +35,10 @@ fieldAt b i = getD b (fields-at + i) 0
 -- its kind
 abbrev pub kindAt : List ℕ → ℕ → ℕ
 kindAt b i = getD b (kinds-at + i) 0
+
+-- all kinds, from that of entry 0 on
+abbrev pub kindsOf : List ℕ → List ℕ
+kindsOf b = drop kinds-at b
 
 -- is it a listed path? A chain is none
 abbrev pub isPathAt : List ℕ → ℕ → Bool

@@ -3,7 +3,9 @@ use check_equality::State;
 use check_equality::Term;
 use rules::Machine;
 ghost use mathlib.Core.Path.{_≡_};
+ghost use mathlib.Core.Bool.{_&&_};
 ghost use Prim.Native.Nat.{_≤_};
+ghost use lib.ListN.{length};
 ghost use Rattle.rules.specs.Limits.{most-permissions};
 ghost use Rattle.rules.specs.Syntax.{var};
 ghost use Rattle.rules.specs.State as Rules;
@@ -11,8 +13,8 @@ ghost use Rattle.rules.specs.State.{equalIn};
 ghost use Rattle.check_equality.specs.Layout.{null-slot};
 ghost use Rattle.check_equality.specs.Keys.{termOf, meaning};
 ghost use Rattle.check_equality.specs.Links.{Labelled};
-ghost use Rattle.check_state.specs.States.{Wf, stateOf, permissionsOf, entries, kindAt};
-ghost use Rattle.check_state.specs.Questions.{Slots, Told, FirstPlace, Bytes, entryTest, passes, inRange, resolvedAs, pathAt, standsFor, variableOr};
+ghost use Rattle.check_state.specs.States.{Wf, stateOf, permissionsOf, entries, kindAt, kindsOf};
+ghost use Rattle.check_state.specs.Questions.{Slots, Told, FirstPlace, Bytes, entryTest, inRange, resolvedAs, pathAt, standsFor, variableOr};
 
 // What the checker knows stands in two arrays, `key` and `b` (`State` in check_equality). Two slots have one label where their terms are ~.
 
@@ -37,24 +39,19 @@ pub fn variable_is<'a>(
     check_equality::alike(l, c, k, a)
 }
 
-// Does an entry by f of x serve, and is f g and x ~ the term of the key k, whose label is a?
+// Does an entry of x serve, and is x ~ the term of the key k, whose label is a?
 fn names<'a>(
     key: &'a [u64; State::SLOTS],
     b: &'a [u8; State::BYTES],
     m: usize,
     serves: bool,
     x: u8,
-    f: u8,
     k: u64,
     a: u8,
-    g: u8,
 ) -> bool
     requires { ⌜ Slots (now key) (now b) m × Labelled (now key) (now b) m k a ⌝ }
-    ensures { λ r. ⌜ Told (now (key .entry)) (now (b .entry)) m (λ same. r ≡ passes same (termOf k) g serves x f) ⌝ }
+    ensures { λ r. ⌜ Told (now (key .entry)) (now (b .entry)) m (λ same. r ≡ (serves && same (var x) (termOf k))) ⌝ }
 {
-    if f != g {
-        return false;
-    }
     if serves {
         return variable_is(key, b, m, x, k, a);
     }
@@ -72,31 +69,31 @@ fn find<'a>(
     key: &'a [u64; State::SLOTS],
     b: &'a [u8; State::BYTES],
     m: usize,
-    kinds: &'a [u8; Machine::PERMISSIONS],
+    kinds: &'a [u8],
     n: usize,
     least: u8,
     most: u8,
     k: u64,
     f: u8,
 ) -> usize
-    requires { ⌜ Slots (now key) (now b) m × (n ≤ most-permissions) ⌝ }
+    requires { ⌜ Slots (now key) (now b) m × (n ≤ most-permissions) × (n ≤ length (now kinds)) ⌝ }
     ensures { λ r. ⌜ Told (now (key .entry)) (now (b .entry)) m (λ same. FirstPlace (entryTest (now (b .entry)) (now (kinds .entry)) least most (termOf k) f same) n r) ⌝ }
 {
     let a = check_equality::label_of(key, b, m, k);
     let mut i = 0;
     while i < n {
-        if names(
-            key,
-            b,
-            m,
-            in_range(least, most, kinds[i]),
-            b[State::VARIABLES + i],
-            b[State::FIELDS + i],
-            k,
-            a,
-            f,
-        ) {
-            return i;
+        if b[State::FIELDS + i] == f {
+            if names(
+                key,
+                b,
+                m,
+                in_range(least, most, kinds[i]),
+                b[State::VARIABLES + i],
+                k,
+                a,
+            ) {
+                return i;
+            }
         }
         i += 1;
     }
@@ -125,18 +122,34 @@ pub enum Resolved {
 pub fn entry<'a>(
     key: &'a [u64; State::SLOTS],
     b: &'a [u8; State::BYTES],
-    kinds: &'a [u8; Machine::PERMISSIONS],
+    kinds: &'a [u8],
+    least: u8,
+    most: u8,
+    k: u64,
+    f: u8,
+) -> usize
+    requires { ⌜ Wf (now key) (now b) × (most-permissions ≤ length (now kinds)) ⌝ }
+    ensures { λ r. ⌜ FirstPlace (entryTest (now (b .entry)) (now (kinds .entry)) least most (termOf k) f (equalIn (stateOf (now (key .entry)) (now (b .entry))))) (entries (now (b .entry))) r ⌝ }
+{
+    let m = State::LEFT + 2 * (b[State::FACTS] as usize);
+    let n = b[State::ENTRIES] as usize;
+    find(key, b, m, kinds, n, least, most, k, f)
+}
+
+// The same with the kinds that the entries have.
+pub fn listed_entry<'a>(
+    key: &'a [u64; State::SLOTS],
+    b: &'a [u8; State::BYTES],
     least: u8,
     most: u8,
     k: u64,
     f: u8,
 ) -> usize
     requires { ⌜ Wf (now key) (now b) ⌝ }
-    ensures { λ r. ⌜ FirstPlace (entryTest (now (b .entry)) (now (kinds .entry)) least most (termOf k) f (equalIn (stateOf (now (key .entry)) (now (b .entry))))) (entries (now (b .entry))) r ⌝ }
+    ensures { λ r. ⌜ FirstPlace (entryTest (now (b .entry)) (kindsOf (now (b .entry))) least most (termOf k) f (equalIn (stateOf (now (key .entry)) (now (b .entry))))) (entries (now (b .entry))) r ⌝ }
 {
-    let m = State::LEFT + 2 * (b[State::FACTS] as usize);
-    let n = b[State::ENTRIES] as usize;
-    find(key, b, m, kinds, n, least, most, k, f)
+    let all = &b[..];
+    entry(key, b, &all[State::KINDS..], least, most, k, f)
 }
 
 fn path_at(b: &[u8; State::BYTES], i: usize) -> Resolved
@@ -173,9 +186,8 @@ pub fn resolve<'a>(key: &'a [u64; State::SLOTS], b: &'a [u8; State::BYTES], e: T
     let Term::Path(y, f) = e else {
         return Resolved::Key(check_equality::key_of(e));
     };
-    let all = kinds(b);
     let k = check_equality::variable_key(y);
-    path_at(b, entry(key, b, &all, State::READ, State::ACC, k, f))
+    path_at(b, listed_entry(key, b, State::READ, State::ACC, k, f))
 }
 
 // Is v a variable other than x, and ~ the term of k, whose label is a?

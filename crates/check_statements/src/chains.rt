@@ -44,14 +44,12 @@ fn open_shown(
     requires { ⌜ Wf (now key) (now b) ⌝ }
     ensures { λ r. ⌜ Adds (openShown y x f (stateOf (now (key .entry)) (now (b .entry)))) r (now (key .exit)) (now (b .exit)) ⌝ }
 {
-    let kinds = check_state::kinds(b);
+    let mut left = check_state::kinds(b);
     let v = check_equality::variable_key(x);
-    let r = check_entailment::take(key, b, kinds, State::CHAIN, v, f);
-    let k = r.answer;
+    let k = check_entailment::take(key, b, &mut left, State::CHAIN, v, f);
     let Answer::Done = k else {
         return k;
     };
-    let left = r.left;
     check_forgetting::remainder(key, b, &left);
     check_forgetting::remove(key, b, y);
     add_opened(key, b, y, x, f)
@@ -86,20 +84,16 @@ fn shut_path(
     requires { ⌜ Wf (now key) (now b) ⌝ }
     ensures { λ r. ⌜ Adds (shutPath x f (termOf p) (stateOf (now (key .entry)) (now (b .entry)))) r (now (key .exit)) (now (b .exit)) ⌝ }
 {
-    let kinds = check_state::kinds(b);
-    let r = check_entailment::take(key, b, kinds, State::CHAIN, p, f);
-    let k = r.answer;
+    let mut left = check_state::kinds(b);
+    let k = check_entailment::take(key, b, &mut left, State::CHAIN, p, f);
     let Answer::Done = k else {
         return k;
     };
-    let rest = r.left;
     let v = check_equality::variable_key(x);
-    let q = check_entailment::take(key, b, rest, State::ACC, v, f);
-    let l = q.answer;
+    let l = check_entailment::take(key, b, &mut left, State::ACC, v, f);
     let Answer::Done = l else {
         return l;
     };
-    let left = q.left;
     check_forgetting::remainder(key, b, &left);
     check_entailment::add_permission(b, State::CHAIN, x, f)
 }

@@ -38,9 +38,8 @@ pub fn set_rule(
     requires { ⌜ Wf (now key) (now b) ⌝ }
     ensures { λ r. ⌜ Adds (setRule x f y (stateOf (now (key .entry)) (now (b .entry)))) r (now (key .exit)) (now (b .exit)) ⌝ }
 {
-    let kinds = check_state::kinds(b);
     let v = check_equality::variable_key(x);
-    let i = check_state::entry(key, b, &kinds, State::ACC, State::ACC, v, f);
+    let i = check_state::listed_entry(key, b, State::ACC, State::ACC, v, f);
     if i < (b[State::ENTRIES] as usize) {
         let path = check_equality::path_key(b[State::VARIABLES + i], b[State::FIELDS + i]);
         check_forgetting::without_path(key, b, i, path);
@@ -106,9 +105,18 @@ pub fn assert_rule<'a>(
     requires { ⌜ (length (now w) ≡ work-bytes) × (a + n ≤ most-atom-rows) × Wf (now key) (now b) ⌝ }
     ensures { λ r. ⌜ Asserts (atomsFrom (now (w .entry)) a n) (stateOf (now (key .entry)) (now (b .entry))) r ⌝ }
 {
-    let r = check_formulas::show(w, a, n, State::THIS, State::PARAM, State::RESULT, key, b);
-    let k = r.answer;
-    k
+    let mut left = check_state::kinds(b);
+    check_formulas::show(
+        w,
+        a,
+        n,
+        State::THIS,
+        State::PARAM,
+        State::RESULT,
+        key,
+        b,
+        &mut left,
+    )
 }
 
 // The end of a part or a block shows the formula, but after a `return` nothing.
@@ -159,9 +167,18 @@ pub fn release_rule(
     requires { ⌜ (length (now w) ≡ work-bytes) × (a + n ≤ most-atom-rows) × Wf (now key) (now b) ⌝ }
     ensures { λ r. ⌜ Adds (releaseRule (atomsFrom (now (w .entry)) a n) (stateOf (now (key .entry)) (now (b .entry)))) r (now (key .exit)) (now (b .exit)) ⌝ }
 {
-    let r = check_formulas::show(w, a, n, State::THIS, State::PARAM, State::RESULT, key, b);
-    let k = r.answer;
-    let left = r.left;
+    let mut left = check_state::kinds(b);
+    let k = check_formulas::show(
+        w,
+        a,
+        n,
+        State::THIS,
+        State::PARAM,
+        State::RESULT,
+        key,
+        b,
+        &mut left,
+    );
     check_forgetting::remainder(key, b, &left);
     k
 }
@@ -181,12 +198,11 @@ fn call_shown(
 {
     let a = tables::requires_first(w, m);
     let n = tables::requires_count(w, m);
-    let r = check_formulas::show(w, a, n, y, z, x, key, b);
-    let k = r.answer;
+    let mut left = check_state::kinds(b);
+    let k = check_formulas::show(w, a, n, y, z, x, key, b, &mut left);
     let Answer::Done = k else {
         return k;
     };
-    let left = r.left;
     check_forgetting::remainder(key, b, &left);
     check_forgetting::remove(key, b, x);
     let c = tables::ensures_first(w, m);

@@ -1,14 +1,14 @@
 use Prim.Native.Nat.{ℕ, _+_, _-_, _≤_}
 use Rattle.check_formulas.proofs.Atoms.{formula-none, formula-more, formula-all, add-more, add-refused, add-end}
 use Rattle.check_formulas.specs.Formulas.{formula}
-use Rattle.check_entailment.specs.Answers.{Adds, AddsAtom}
+use Rattle.check_entailment.specs.Answers.{Adds}
 use Rattle.check_state.specs.States.{stateOf, Wf}
 use Rattle.rules.specs.Answers.{Refusal}
 use Rattle.rules.specs.Base.{Try}
 use borrow.Author.Needs.{needs}
 use mathlib.Core.Path.{_≡_, sym, ap, _∙_, subst}
 use native.Mathlib.Omega.{arith}
-use Rattle.rules.specs.Syntax.{Atom, Formula}
+use Rattle.rules.specs.Syntax.{Formula}
 use Rattle.check_entailment.specs.declared.Answer.{Answer}
 use Rattle.rules.specs.State as Rules
 use Rattle.check_formulas.proofs.add.Statement.{statement}
@@ -25,27 +25,21 @@ loop-holds : tie.Need-loop-holds Inv-loop μ-loop
 loop-holds c =
     (omega arith, c .before .pre .2, ap (λ (φ : Formula ℕ). Rules.add φ (stateOf (c .before .args .key .now) (c .before .args .b .now))) (sym (formula-all _ _ _ _ _ _)))
 
-add-atom : tie.Need-add-atom Inv-loop μ-loop
-add-atom c = omega arith
+add-add-at : tie.Need-add-add-at Inv-loop μ-loop
+add-add-at c = omega arith
 
-atom-requires : tie.Need-atom-requires Inv-loop μ-loop
-atom-requires c κs = (c .before .before .before .before .before .pre .0, omega (arith, c .before .before .before .before .before .pre .1))
-
-add-atom-requires : tie.Need-add-atom-requires Inv-loop μ-loop
-add-atom-requires c κs = c .before .before .before .before .loop .inv .1
+add-at-requires : tie.Need-add-at-requires Inv-loop μ-loop
+add-at-requires c κs = let start = c .before .before .before .before .before in (start .pre .0, omega (arith, start .pre .1), c .before .before .before .loop .inv .1)
 
 enum-told : tie.Need-enum-told Inv-loop μ-loop
 enum-told c = search needs
 
 returns : tie.Need-returns Inv-loop μ-loop
 returns c =
-    let at-loop = c .before .before .before .before .before .before .loop in
-    let at-loop-test = c .before .before .before .before .before .loop-test in
-    let at-atom = c .before .before .atom in
-    subst (λ (q : Try Refusal Rules.State). Adds q (c .before .add-atom .result) (c .before .add-atom .last .0) (c .before .add-atom .last .1 .0))
-    (sym (at-loop .inv .2)) (add-refused (at-loop .key) (at-loop .b) _ _ _ _ (subst (λ (a : Atom ℕ). AddsAtom (at-loop .key) (at-loop .b) a (c .before
-    .add-atom .result) (c .before .add-atom .last .0) (c .before .add-atom .last .1 .0)) (at-atom .ensures) (c .before .add-atom .ensures)) _ _
-    (formula-more _ _ _ _ _ _ _ (at-loop-test .taken)) (c .match .keys2))
+    let at-loop = c .before .before .before .before .before .loop in
+    let added = c .before .add-at in
+    subst (λ (q : Try Refusal Rules.State). Adds q (added .result) (added .last .1 .1 .1 .1 .1 .0) (added .last .1 .1 .1 .1 .1 .1 .0))
+    (sym (at-loop .inv .2)) (add-refused (at-loop .key) (at-loop .b) _ _ _ _ (added .ensures) _ _ (formula-more _ _ _ _ _ _ _ (c .before .before .before .before .loop-test .taken)) (c .match .keys2))
 
 add-i : tie.Need-add-i Inv-loop μ-loop
 add-i c = omega arith
@@ -55,16 +49,9 @@ loop-less c = omega arith
 
 loop-again : tie.Need-loop-again Inv-loop μ-loop
 loop-again c =
-    let at-loop = c .before .before .before .before .before .before .before .loop in
-    let at-loop-test = c .before .before .before .before .before .before .loop-test in
-    let at-atom = c .before .before .before .atom in
-    let at-add-atom = c .before .before .add-atom in (
-      omega arith,
-      at-add-atom .ensures .wf,
-      at-loop .inv .2 ∙ add-more (at-loop .key) (at-loop .b) _ _ _ _ (subst (λ (a : Atom ℕ). AddsAtom (at-loop
-          .key) (at-loop .b) a (at-add-atom .result) (at-add-atom .last .0) (at-add-atom .last .1 .0)) (at-atom .ensures) (at-add-atom .ensures)) _ _
-          (formula-more _ _ _ _ _ _ _ (at-loop-test .taken)) (c .enum-told .given .1),
-    )
+    let at-loop = c .before .before .before .before .before .before .loop in
+    let added = c .before .before .add-at in
+    (omega arith, added .ensures .wf, at-loop .inv .2 ∙ add-more (at-loop .key) (at-loop .b) _ _ _ _ (added .ensures) _ _ (formula-more _ _ _ _ _ _ _ (c .before .before .before .before .before .loop-test .taken)) (c .enum-told .given .1))
 
 returns-2 : tie.Need-returns-2 Inv-loop μ-loop
 returns-2 c =
@@ -80,9 +67,8 @@ add-spec =
     Inv-loop
     μ-loop
     loop-holds
-    add-atom
-    atom-requires
-    add-atom-requires
+    add-add-at
+    add-at-requires
     enum-told
     returns
     add-i

@@ -1,4 +1,4 @@
-use Rattle.check_rows.proofs.Operands.{relation}
+use Rattle.check_formulas.proofs.Atoms.{relation}
 use Rattle.rules.specs.Answers.{Refusal}
 use Rattle.rules.specs.Base.{Try}
 use Rattle.check_statements.proofs.Ruled.{plain-term}

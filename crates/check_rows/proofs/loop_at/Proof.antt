@@ -1,4 +1,5 @@
-use Rattle.check_rows.proofs.Operands.{relation, loop-atoms}
+use Rattle.check_formulas.proofs.Atoms.{relation}
+use Rattle.check_rows.proofs.Operands.{loop-atoms}
 use mathlib.Core.Path.{subst}
 use native.Mathlib.Omega.{arith}
 use Rattle.rules.specs.Answers.{Refusal}

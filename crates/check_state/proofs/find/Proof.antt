@@ -1,10 +1,15 @@
 use Prim.Native.Nat.{ℕ, _-_, _≤_, _<_}
-use Rattle.check_state.specs.Questions.{Told, entryTest}
+use Rattle.check_state.specs.Questions.{Told, entryTest, passes}
 use Rattle.check_equality.specs.Keys.{termOf}
-use Rattle.rules.specs.Syntax.{same}
+use Rattle.rules.specs.Syntax.{var}
+use Rattle.rules.specs.State as Rules
+use Rattle.rules.specs.State.{Equality}
+use lib.Dec.{eqb}
 use borrow.Author.Count.{below-more}
-use mathlib.Core.Bool.{false}
-use mathlib.Core.Path.{_≡_, sym, _∙_}
+use borrow.Author.Tests.{eq-eqb, ne-eqb}
+use mathlib.Core.Bool.{Bool, true, false, _&&_}
+use mathlib.Core.Logic.{⊎-elim}
+use mathlib.Core.Path.{_≡_, refl, sym, _∙_}
 use native.Mathlib.Omega.{arith}
 use Rattle.check_state.proofs.find.Statement.{statement}
 use Rattle.check_state.proofs.find.Tie as tie
@@ -16,14 +21,31 @@ Inv-loop key b m kinds n least most k f a i₀ i =
 abbrev μ-loop : tie.MeasureT-loop
 μ-loop key b m kinds n least most k f a i₀ i = n - i
 
+module _ (same : Equality) (t : Rules.Term) (g x f : ℕ) where
+  by-field : (serves : Bool) → eqb f g ≡ true → passes same t g serves x f ≡ (serves && same (var x) t)
+  unfolding passes
+  by-field serves e = rw e
+
+  by-other : (serves : Bool) → eqb f g ≡ false → passes same t g serves x f ≡ false
+  unfolding passes
+  by-other true e = rw e
+  by-other false e = refl
+
 label-of-requires : tie.Need-label-of-requires Inv-loop μ-loop
-label-of-requires c κs = let p = c .pre .0 in (p .some, p .most, p .header)
+label-of-requires c κs = let p = c .before .pre .0 in (p .some, p .most, p .header)
 
 loop-holds : tie.Need-loop-holds Inv-loop μ-loop
 loop-holds c = (omega arith, λ fs D j h. absurd (omega arith))
 
-element-copy-out-in-range : tie.Need-element-copy-out-in-range Inv-loop μ-loop
-element-copy-out-in-range c = omega arith
+add-if1 : tie.Need-add-if1 Inv-loop μ-loop
+add-if1 c = omega arith
+
+element-copy-out-if1 : tie.Need-element-copy-out-if1 Inv-loop μ-loop
+element-copy-out-if1 c = omega arith
+
+shared-slice-read-in-range : tie.Need-shared-slice-read-in-range Inv-loop μ-loop
+shared-slice-read-in-range c =
+    omega (arith, c .before .before .before .loop-test .taken, c .before .before .before .before .before .before .before .pre .2)
 
 in-range-requires : tie.Need-in-range-requires Inv-loop μ-loop
 in-range-requires c κs = tt
@@ -34,22 +56,21 @@ add-names c = omega arith
 element-copy-out-names : tie.Need-element-copy-out-names Inv-loop μ-loop
 element-copy-out-names c = omega arith
 
-add-names-2 : tie.Need-add-names-2 Inv-loop μ-loop
-add-names-2 c = omega arith
-
-element-copy-out-names-2 : tie.Need-element-copy-out-names-2 Inv-loop μ-loop
-element-copy-out-names-2 c = omega arith
-
 names-requires : tie.Need-names-requires Inv-loop μ-loop
-names-requires c κs = (c .before .before .before .before .before .before .before .pre .0, c .before .before .before .before .before .before .label-of .ensures)
+names-requires c κs =
+    let start = c .before .before .before .before .before .before .before .before .before in
+    (start .pre .0, c .before .before .before .before .before .before .before .label-of .ensures)
 
 returns : tie.Need-returns Inv-loop μ-loop
 returns c =
+    let at-loop = c .before .before .before .before .before .before .before .before .loop in
+    let at-if1 = c .before .before .before .before .before .if1 in
+    let at-in-range = c .before .before .before .in-range in
     λ fs D.
     record {
       within = omega arith;
-      before = c .before .before .before .before .before .before .before .loop .inv .1 fs D;
-      found = λ _. sym (rw (c .before .before .before .before .in-range .ensures) at (c .before .names .ensures fs D)) ∙ c .if1 .taken;
+      before = at-loop .inv .1 fs D;
+      found = λ _. by-field _ _ _ _ _ _ (eq-eqb _ _ (at-if1 .taken)) ∙ sym (rw (at-in-range .ensures) at (c .before .names .ensures fs D)) ∙ c .if2 .taken;
     }
 
 add-i : tie.Need-add-i Inv-loop μ-loop
@@ -59,13 +80,18 @@ loop-less : tie.Need-loop-less Inv-loop μ-loop
 loop-less c = omega arith
 
 loop-again : tie.Need-loop-again Inv-loop μ-loop
-loop-again c =
-    (omega arith, λ fs D. below-more _ _ (c .before .before .before .before .before .before .before .loop .inv .1 fs D) (sym (rw (c .before .before .before .before .in-range .ensures) at (c .before .names .ensures fs D)) ∙ c .if1 .left))
+loop-again c = (
+  omega arith,
+  λ fs D. below-more _ _ (c .before .before .before .loop .inv .1 fs D) (⊎-elim
+      (λ w. by-field _ _ _ _ _ _ (eq-eqb _ _ (w .0 .taken)) ∙ sym (rw (w .2 .ensures) at (w .4 .ensures fs D)) ∙ w .5 .left)
+      (λ w. by-other _ _ _ _ _ _ (ne-eqb _ _ (w .left)))
+      (c .if1 .came)),
+)
 
 returns-2 : tie.Need-returns-2 Inv-loop μ-loop
 returns-2 c =
     λ fs D.
-    let e : c .before .loop .i ≡ c .before .before .before .args .n = omega arith in
+    let e : c .before .loop .i ≡ c .before .before .before .before .args .n = omega arith in
     record { within = omega arith; before = rw e at (c .before .loop .inv .1 fs D); found = λ h. absurd (omega arith) }
 
 pub find-spec : {M : Type 1} → statement M
@@ -76,12 +102,12 @@ find-spec =
     μ-loop
     label-of-requires
     loop-holds
-    element-copy-out-in-range
+    add-if1
+    element-copy-out-if1
+    shared-slice-read-in-range
     in-range-requires
     add-names
     element-copy-out-names
-    add-names-2
-    element-copy-out-names-2
     names-requires
     returns
     add-i

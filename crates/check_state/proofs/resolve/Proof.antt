@@ -1,4 +1,4 @@
-use Rattle.check_state.proofs.Entries.{resolve-path}
+use Rattle.check_state.proofs.Entries.{own-kinds, resolve-path}
 use Rattle.check_state.specs.Questions.{resolvedAs}
 use Rattle.check_state.specs.States.{permissionsOf, stateOf}
 use Rattle.check_equality.specs.Keys.{meaning}
@@ -36,14 +36,11 @@ returns : tie.Need-returns
 unfolding resolvedAs
 returns c = ap ok (c .key-of .ensures) ∙ rest _ (c .before .match .keys2) _ _
 
-kinds-requires : tie.Need-kinds-requires
-kinds-requires c κs = tt
-
 variable-key-requires : tie.Need-variable-key-requires
 variable-key-requires c κs = tt
 
-entry-requires : tie.Need-entry-requires
-entry-requires c κs = search needs
+listed-entry-requires : tie.Need-listed-entry-requires
+listed-entry-requires c κs = search needs
 
 path-at-requires : tie.Need-path-at-requires
 path-at-requires c κs = search needs
@@ -51,14 +48,14 @@ path-at-requires c κs = search needs
 returns-2 : tie.Need-returns-2
 unfolding meaning
 returns-2 c =
-    let start = c .before .before .before .before .before .before .before .before in
-    let at-e = c .before .before .before .before .before .before .e in
+    let start = c .before .before .before .before .before .before in
+    let at-e = c .before .before .before .before .e in
     let W = start .pre in
     c .path-at .ensures
-    ∙ resolve-path _ _ _ _ _ _ (W .kinds) (W .fit) (c .before .before .before .before .kinds .ensures) (rw (c .before .before .before .variable-key .ensures .0) at (c .before .entry .ensures))
+    ∙ resolve-path _ _ _ _ _ _ (W .kinds) (W .fit) (own-kinds (start .args .b .now) (W .linked .size)) (rw (c .before .before .variable-key .ensures .0) at (c .before .listed-entry .ensures))
     ∙ ap (λ (t : Term). Rules.resolve (equalIn (stateOf (start .args .key .now) (start .args .b .now))) (permissionsOf (start .args .b .now)) (meaning t)) (sym (at-e .given .1))
 
 pub resolve-spec : {M : Type 1} → statement M
 resolve-spec =
     tie.close
-    (tie.spec enum-known-e key-of-requires returns kinds-requires variable-key-requires entry-requires path-at-requires returns-2)
+    (tie.spec enum-known-e key-of-requires returns variable-key-requires listed-entry-requires path-at-requires returns-2)

@@ -1,5 +1,6 @@
 use native.Mathlib.Omega.{arith}
 use Rattle.check_entailment.specs.Answers.{answered}
+use Rattle.check_state.proofs.Entries.{own-kinds}
 use Rattle.check_statements.proofs.Ruled.{adds-same, adds-no, set-refused, set-path, set-found}
 use mathlib.Core.Path.{sym}
 use Rattle.check_equality.specs.Links.{relOf}
@@ -8,20 +9,17 @@ use borrow.Author.Needs.{needs}
 use Rattle.check_statements.proofs.set_rule.Statement.{statement}
 use Rattle.check_statements.proofs.set_rule.Tie as tie
 
-kinds-requires : tie.Need-kinds-requires
-kinds-requires c κs = search needs
-
 variable-key-requires : tie.Need-variable-key-requires
 variable-key-requires c κs = tt
 
-entry-requires : tie.Need-entry-requires
-entry-requires c κs = search needs
+listed-entry-requires : tie.Need-listed-entry-requires
+listed-entry-requires c κs = search needs
 
 element-copy-out-if1 : tie.Need-element-copy-out-if1
 element-copy-out-if1 c = search needs
 
 cast-if1 : tie.Need-cast-if1
-cast-if1 c = omega (arith, c .before .before .before .before .before .before .before .before .pre .fit)
+cast-if1 c = omega (arith, c .before .before .before .before .before .pre .fit)
 
 add-path-key : tie.Need-add-path-key
 add-path-key c = search needs
@@ -40,9 +38,9 @@ path-key-requires c κs = search needs
 
 without-path-requires : tie.Need-without-path-requires
 without-path-requires c κs =
-    let start = c .before .before .before .before .before .before .before .before .before .before .before .before .before .before in
-    let found = rw (c .before .before .before .before .before .before .before .before .before .before .before .variable-key .ensures .0) at (c .before .before .before .before .before .before .before .entry .ensures) in
-    (start .pre, set-path _ _ (start .pre) _ (c .before .before .before .before .before .before .before .before .before .before .before .before .kinds .ensures) _ _ (start .args .y) _ found (c .before .before .before .before .before .if1 .taken), c .before .before .path-key .ensures .0)
+    let start = c .before .before .before .before .before .before .before .before .before .before .before in
+    let found = rw (c .before .before .before .before .before .before .before .before .before .before .variable-key .ensures .0) at (c .before .before .before .before .before .before .before .listed-entry .ensures) in
+    (start .pre, set-path _ _ (start .pre) _ (own-kinds (start .args .b .now) (start .pre .linked .size)) _ _ (start .args .y) _ found (c .before .before .before .before .before .if1 .taken), c .before .before .path-key .ensures .0)
 
 variable-key-requires-2 : tie.Need-variable-key-requires-2
 variable-key-requires-2 c κs = tt
@@ -53,28 +51,27 @@ add-fact-requires c κs = c .before .before .before .without-path .ensures .wf
 returns : tie.Need-returns
 unfolding relOf
 returns c =
-    let start = c .before .before .before .before .before .before .before .before .before .before .before .before .before .before .before .before .before .before .before in
+    let start = c .before .before .before .before .before .before .before .before .before .before .before .before .before .before .before .before in
     let at-path-key = c .before .before .before .before .before .before .before .path-key in
     let at-without-path = c .before .before .before .before .without-path in
-    let found = rw (c .before .before .before .before .before .before .before .before .before .before .before .before .before .before .before .before .variable-key .ensures .0) at (c .before .before .before .before .before .before .before .before .before .before .before .before .entry .ensures) in
+    let found = rw (c .before .before .before .before .before .before .before .before .before .before .before .before .before .before .before .variable-key .ensures .0) at (c .before .before .before .before .before .before .before .before .before .before .before .before .listed-entry .ensures) in
     adds-same _ _ _ _ _ (rw (at-path-key .ensures .0, c .before .variable-key2 .ensures .0, at-without-path .ensures .same)
-    (sym (set-found (start .args .key .now) (start .args .b .now) (start .pre) _ (c .before .before .before .before .before .before .before .before .before .before .before .before .before .before .before .before .before .kinds .ensures) _ _ _ _ found (c .before .before .before .before .before .before .before .before .before .before .if1 .taken))))
+    (sym (set-found (start .args .key .now) (start .args .b .now) (start .pre) _ (own-kinds (start .args .b .now) (start .pre .linked .size)) _ _ _ _ found (c .before .before .before .before .before .before .before .before .before .before .if1 .taken))))
     (c .add-fact .ensures)
 
 returns-2 : tie.Need-returns-2
 unfolding answered
 returns-2 c =
-    let start = c .before .before .before .before .before .before .before .before .before in
-    let found = rw (c .before .before .before .before .before .before .variable-key .ensures .0) at (c .before .before .entry .ensures) in
-    adds-no Answer.NoPermission _ _ (start .pre) _ (set-refused (start .args .key .now) (start .args .b .now) (start .pre) _ (c .before .before .before .before .before .before .before .kinds .ensures) _ _ _ _ found (c .if1 .left))
+    let start = c .before .before .before .before .before .before in
+    let found = rw (c .before .before .before .before .before .variable-key .ensures .0) at (c .before .before .listed-entry .ensures) in
+    adds-no Answer.NoPermission _ _ (start .pre) _ (set-refused (start .args .key .now) (start .args .b .now) (start .pre) _ (own-kinds (start .args .b .now) (start .pre .linked .size)) _ _ _ _ found (c .if1 .left))
 
 pub set-rule-spec : {M : Type 1} → statement M
 set-rule-spec =
     tie.close
     (tie.spec
-    kinds-requires
     variable-key-requires
-    entry-requires
+    listed-entry-requires
     element-copy-out-if1
     cast-if1
     add-path-key

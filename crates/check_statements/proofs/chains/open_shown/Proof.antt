@@ -12,19 +12,19 @@ variable-key-requires : tie.Need-variable-key-requires
 variable-key-requires c κs = tt
 
 take-requires : tie.Need-take-requires
-take-requires c κs = let w = c .before .before .before .before .before .pre in (w, start-fits _ _ _ w (c .before .before .before .kinds .ensures), (omega arith, omega arith))
+take-requires c κs = let w = c .before .before .before .before .before .before .pre in (w, start-fits _ _ _ w (c .before .before .before .before .kinds .ensures), (omega arith, omega arith))
 
 enum-told : tie.Need-enum-told
 enum-told c = search needs
 
 returns : tie.Need-returns
 returns c =
-    let start = c .before .before .before .before .before .before .before in
+    let start = c .before .before .before .before .before .before .before .before in
     let took = c .before .take in
-    open-refused (start .args .key .now) (start .args .b .now) (start .pre) _ (c .before .before .before .before .before .kinds .ensures) _ _ _ (took .result .left) (took .ensures .1) _ _ (c .before .before .before .before .variable-key .ensures .0) (c .match .keys2)
+    open-refused (start .args .key .now) (start .args .b .now) (start .pre) _ (c .before .before .before .before .before .before .kinds .ensures) _ _ _ (took .last .1 .1 .0) (took .ensures .1) _ _ (c .before .before .before .before .before .variable-key .ensures .0) (c .match .keys2)
 
 remainder-requires : tie.Need-remainder-requires
-remainder-requires c κs = (c .before .before .before .before .before .before .before .before .before .before .before .before .pre, c .before .before .before .before .before .before .take .ensures .0)
+remainder-requires c κs = (c .before .before .before .before .before .before .before .before .before .before .before .before .pre, c .before .before .before .before .before .take .ensures .0)
 
 remove-requires : tie.Need-remove-requires
 remove-requires c κs = c .before .before .remainder .ensures .wf
@@ -35,11 +35,11 @@ add-opened-requires c κs = c .before .before .remove .ensures .wf
 returns-2 : tie.Need-returns-2
 returns-2 c =
     let start = c .before .before .before .before .before .before .before .before .before .before .before .before .before .before .before .before .before .before .before in
-    let took = c .before .before .before .before .before .before .before .before .before .before .before .before .before .take in
+    let took = c .before .before .before .before .before .before .before .before .before .before .before .before .take in
     open-done (start .args .key .now) (start .args .b .now) (start .pre) _
-    (c .before .before .before .before .before .before .before .before .before .before .before .before .before .before .before .before .before .kinds .ensures) _ _ _ (took .result .left)
+    (c .before .before .before .before .before .before .before .before .before .before .before .before .before .before .before .before .before .kinds .ensures) _ _ _ (took .last .1 .1 .0)
     (took .ensures .1) _ _ (c .before .before .before .before .before .before .before .before .before .before .before .before .before .before .before .before .variable-key .ensures .0)
-    (c .before .before .before .before .before .before .before .before .before .before .before .enum-told .given .1) _ _ _ _ (c .before .before .before .before .before .before .remainder .ensures)
+    (c .before .before .before .before .before .before .before .before .before .before .enum-told .given .1) _ _ _ _ (c .before .before .before .before .before .before .remainder .ensures)
     (c .before .before .before .remove .ensures) _ _ _ (c .add-opened .ensures)
 
 pub open-shown-spec : {M : Type 1} → statement M

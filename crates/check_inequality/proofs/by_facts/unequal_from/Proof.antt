@@ -1,22 +1,22 @@
 use Prim.Native.Nat.{_-_, _≤_}
 use Rattle.check_state.specs.Questions.{places}
 use Rattle.check_inequality.specs.Ways.{unequalIn}
-use Rattle.check_equality.proofs.Listing.{any-none, any-past, any-found}
+use Rattle.check_equality.proofs.Listing.{any-past, any-found}
 use Rattle.rules.specs.Base.{any}
 use mathlib.Core.Bool.{false}
 use mathlib.Core.Path.{_≡_, sym, _∙_}
 use native.Mathlib.Omega.{arith}
-use Rattle.check_inequality.proofs.listed_unequal.Statement.{statement}
-use Rattle.check_inequality.proofs.listed_unequal.Tie as tie
+use Rattle.check_inequality.proofs.by_facts.unequal_from.Statement.{statement}
+use Rattle.check_inequality.proofs.by_facts.unequal_from.Tie as tie
 
 abbrev Inv-loop : tie.InvT-loop
-Inv-loop b n x y i₀ i = (i ≤ n) × (any (unequalIn b x y) (places i) ≡ false)
+Inv-loop b from n x y i₀ i = (i ≤ n) × (any (unequalIn b x y) (places i) ≡ false)
 
 abbrev μ-loop : tie.MeasureT-loop
-μ-loop b n x y i₀ i = n - i
+μ-loop b from n x y i₀ i = n - i
 
 loop-holds : tie.Need-loop-holds Inv-loop μ-loop
-loop-holds c = (omega arith, any-none _ _)
+loop-holds c = (c .pre .0, c .pre .2)
 
 add-unequal-at : tie.Need-add-unequal-at Inv-loop μ-loop
 add-unequal-at c = omega arith
@@ -63,8 +63,8 @@ returns-2 : tie.Need-returns-2 Inv-loop μ-loop
 returns-2 c =
     let e : c .before .loop .i ≡ c .before .before .args .n = omega arith in sym (rw e at (c .before .loop .inv .1))
 
-pub listed-unequal-spec : {M : Type 1} → statement M
-listed-unequal-spec =
+pub unequal-from-spec : {M : Type 1} → statement M
+unequal-from-spec =
     tie.close
     (tie.spec
     Inv-loop

@@ -1,8 +1,8 @@
 use Rattle.check_inequality.specs.Ways.{unequalAt}
 use borrow.Author.Tests.{eq-eqb, ne-eqb}
 use borrow.Author.Needs.{needs}
-use Rattle.check_inequality.proofs.unequal_at.Statement.{statement}
-use Rattle.check_inequality.proofs.unequal_at.Tie as tie
+use Rattle.check_inequality.proofs.by_facts.unequal_at.Statement.{statement}
+use Rattle.check_inequality.proofs.by_facts.unequal_at.Tie as tie
 
 either-way-requires : tie.Need-either-way-requires
 either-way-requires c κs = search needs
