@@ -1,0 +1,112 @@
+use native.Mathlib.Omega.{arith}
+use mathlib.Core.Path.{_≡_, sym, _∙_}
+use mathlib.Core.Bool.{true}
+use Prim.Native.Nat.{suc, _-_, _≤_}
+use Rattle.run_heap.specs.Views.{readIs, stopOf}
+use Rattle.run_heap.specs.Chains.{walkIn}
+use Rattle.run_heap.proofs.Reading.{spot-at, spot-lacking}
+use Rattle.run_heap.proofs.Walking.{whole-small, whole-free, walk-next, walk-stops, walk-over}
+use borrow.Author.Needs.{needs}
+use Rattle.run_heap.proofs.neighbours.walk_near.Statement.{statement}
+use Rattle.run_heap.proofs.neighbours.walk_near.Tie as tie
+
+abbrev Inv-loop : tie.InvT-loop
+Inv-loop work v f o c last₀ at₀ n i₀ last at i = (i ≤ suc n) × (walkIn work v (λ _. true) f (suc n - i) at last ≡ walkIn work v (λ _. true) f (suc n) o 0)
+
+abbrev μ-loop : tie.MeasureT-loop
+μ-loop work v f o c last₀ at₀ n i₀ last at i = suc n - i
+
+cache-of-requires : tie.Need-cache-of-requires Inv-loop μ-loop
+cache-of-requires c κs = search needs
+
+loop-holds : tie.Need-loop-holds Inv-loop μ-loop
+loop-holds c =
+    let start = c .before .before in
+    (omega arith, let e : suc (start .args .v .objects) - 0 ≡ suc (start .args .v .objects) = omega arith in rw e)
+
+near-requires : tie.Need-near-requires Inv-loop μ-loop
+near-requires c κs =
+    let start = c .before .before .before .before in
+    (((start .pre .0, c .before .before .cache-of .ensures), start .pre .1), omega arith)
+
+returns : tie.Need-returns Inv-loop μ-loop
+unfolding readIs stopOf
+returns c =
+    let at-near = c .before .before .near in
+    let at-loop = c .before .before .before .before .loop in
+    sym (walk-over _ _ _ _ _ _ _ _ (c .if1 .taken)) ∙ (at-near .ensures .walked ∙ at-loop .inv .1)
+
+whole-by-requires : tie.Need-whole-by-requires Inv-loop μ-loop
+whole-by-requires c κs =
+    let start = c .before .before .before .before .before .before .before in
+    let at-cache-of = c .before .before .before .before .before .cache-of in
+    ((start .pre .0, at-cache-of .ensures), start .pre .1)
+
+enum-known-k : tie.Need-enum-known-k Inv-loop μ-loop
+enum-known-k c = search needs
+
+enum-told : tie.Need-enum-told Inv-loop μ-loop
+enum-told c = search needs
+
+walk-end-requires : tie.Need-walk-end-requires Inv-loop μ-loop
+walk-end-requires c κs = search needs
+
+returns-2 : tie.Need-returns-2 Inv-loop μ-loop
+returns-2 c =
+    let at-loop = c .before .before .before .before .before .before .before .before .loop in
+    let at-near = c .before .before .before .before .before .before .near in
+    let at-if1 = c .before .before .before .before .if1 in
+    let at-whole-by = c .before .before .before .whole-by in
+    c .walk-end .ensures ∙ (sym (walk-stops _ _ _ _ _ _ _ _ _ (omega (arith, at-if1 .left)) (whole-free _ _ _ _ ∙ spot-lacking _ _ (c .before .enum-told .given .1) (at-whole-by .ensures))) ∙ (at-near .ensures .walked ∙ at-loop .inv .1))
+
+cell-value-requires : tie.Need-cell-value-requires Inv-loop μ-loop
+cell-value-requires c κs =
+    let start = c .before .before .before .before .before .before .before .before .before .before .before in
+    let at-whole-by = c .before .before .before .whole-by in
+    (start .pre .0 .tables .size, whole-small _ _ _ _ _ (start .pre .0) (spot-at _ _ (c .before .k .given .1) (at-whole-by .ensures)))
+
+add-i : tie.Need-add-i Inv-loop μ-loop
+add-i c =
+    let start = c .before .before .before .before .before .before .before .before .before .before .before .before .before in
+    let at-if1 = c .before .before .before .before .before .before .if1 in
+    omega (arith, at-if1 .left, start .pre .0 .objects)
+
+loop-less : tie.Need-loop-less Inv-loop μ-loop
+loop-less c =
+    let at-near = c .before .before .before .before .before .before .before .before .near in
+    let at-if1 = c .before .before .before .before .before .before .if1 in
+    omega (arith, at-near .ensures .further, at-if1 .left)
+
+loop-again : tie.Need-loop-again Inv-loop μ-loop
+loop-again c =
+    let at-loop = c .before .before .before .before .before .before .before .before .before .before .loop in
+    let at-near = c .before .before .before .before .before .before .before .before .near in
+    let at-if1 = c .before .before .before .before .before .before .if1 in
+    let at-whole-by = c .before .before .before .before .before .whole-by in
+    let at-k = c .before .before .before .k in
+    (omega (arith, at-if1 .left), rw (c .before .cell-value .ensures) (walk-next _ _ _ _ _ _ _ _ _ (omega (arith, at-if1 .left)) (whole-free _ _ _ _ ∙ spot-at _ _ (at-k .given .1) (at-whole-by .ensures)) ∙ (at-near .ensures .walked ∙ at-loop .inv .1)))
+
+returns-3 : tie.Need-returns-3 Inv-loop μ-loop
+unfolding readIs stopOf
+returns-3 c = sym (walk-over _ _ _ _ _ _ _ _ (omega (arith, c .loop-test .left))) ∙ c .before .loop .inv .1
+
+pub walk-near-spec : {M : Type 1} → statement M
+walk-near-spec =
+    tie.close
+    (tie.spec
+    Inv-loop
+    μ-loop
+    cache-of-requires
+    loop-holds
+    near-requires
+    returns
+    whole-by-requires
+    enum-known-k
+    enum-told
+    walk-end-requires
+    returns-2
+    cell-value-requires
+    add-i
+    loop-less
+    loop-again
+    returns-3)
