@@ -16,7 +16,7 @@ use Rattle.rules.proofs.Tries.{bind-ok, check-ok, ok-inj, no-ok}
 use Rattle.tables.specs.Numbers.{word-values}
 use Rattle.run_heap.specs.declared.View.{View}
 use Rattle.run_heap.specs.Views.{halvesAt, cellValue, cellOf, present, foundOf, heldCell, Readable}
-use Rattle.run_heap.specs.Chains.{wholeCell, freeCell, walkIn, walkEnd, atCell, cellsBy, Leads}
+use Rattle.run_heap.specs.Chains.{wholeCell, freeCell, walkIn, walkEnd, atCell, cellsBy}
 use Rattle.run_heap.proofs.Reading.{cell-null, cell-beyond, cell-small, found-is, found-next}
 
 module _ (w : List ℕ) (v : View) (f : ℕ) where
@@ -40,7 +40,7 @@ module _ (w : List ℕ) (v : View) (f : ℕ) where
       go (ok k) = refl
       go (no s) = refl
 
-  pub whole-object : (o k : ℕ) → wholeCell w v f o ≡ ok k → o ≡ 0 → ⊥
+  whole-object : (o k : ℕ) → wholeCell w v f o ≡ ok k → o ≡ 0 → ⊥
   whole-object o k e z =
       none-some (sym (cell-null w (v .objects) f) ∙ (ap (λ (i : ℕ). cellOf w (v .objects) i f) (sym z) ∙ whole-is o k e .0))
 
@@ -109,27 +109,7 @@ module _ (w : List ℕ) (v : View) (f : ℕ) (free : ℕ → Bool) (n i o last :
   unfolding walkIn
   walk-over l = let b : suc n - i ≡ 0 = omega arith in rw b
 
--- A WALK BY NEIGHBOURS, n and i as above
-module _ (w : List ℕ) (v : View) (f o : ℕ) (L : Leads w v f o) where
-  pub leads-object : o ≡ 0 → ⊥
-  leads-object = let (k, a, _) = bind-ok (wholeCell w v f o) L in whole-object w v f o k a
-
-  pub walk-leads :
-      (n i last : ℕ) →
-      walkIn w v (λ _. true) f (suc n - (i + 1)) (o - 1) o ≡ walkIn w v (λ _. true) f (suc n - i) o last
-  walk-leads n i last =
-      let (k, a, b) = bind-ok (wholeCell w v f o) L in
-      let q : cellValue w k ≡ o - 1 = ok-inj b in
-      ⊎-elim
-      (λ (l : suc n - i ≡ 0).
-      walk-over w v f (λ _. true) n (i + 1) (o - 1) o (omega arith) ∙ sym (walk-over w v f (λ _. true) n i o last (omega arith)))
-      (λ (l : suc n - i ≡ 0 → ⊥). rw (← q) (walk-next w v f (λ _. true) n i o last k (omega arith) (whole-free w v f o ∙ a)))
-      (decide-eq (suc n - i) 0)
-
 -- OBJECTS BY INDEX, r the number before o, round the end of a word
-pub wrapped-before : (o r : ℕ) → r < word-values → (o ≡ 0 → ⊥) → (r + 1) % word-values ≡ o → r ≡ o - 1
-wrapped-before o r h z e = omega arith
-
 pub found-object :
     (w : List ℕ) (n o f r : ℕ) → r < heap-objects → (r + 1) % word-values ≡ o → foundOf w n o f ≡ present (cellOf w n (suc r) f)
 found-object w n o f r h e =

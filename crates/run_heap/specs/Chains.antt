@@ -12,7 +12,7 @@ use Rattle.tables.specs.Numbers.{byte-values}
 use Rattle.tables.specs.Tables.{placeAt}
 use Rattle.run_heap.specs.declared.View.{View}
 use Rattle.run_heap.specs.declared.chains.Cache.{Cache}
-use Rattle.run_heap.specs.declared.neighbours.Reached.{Reached}
+use Rattle.run_heap.specs.declared.strides.Reached.{Reached}
 use Rattle.run_heap.specs.Views.{whole, no-place, cellValue, cellOf, foundOf, heldCell}
 
 -- the cell of a field of the object o, if the view's number holds it whole
@@ -50,12 +50,12 @@ pub record Caches (w : List ℕ) (f : ℕ) (c : Cache) : Type 0 where
   pub is-place : c .class < most-classes → placeAt w (c .class) f ≡ c .place
   pub has-place : c .class < most-classes → c .place ≡ no-place → ⊥
 
--- the walk by f passes the object o and goes on to the one before it
-abbrev pub Leads : List ℕ → View → ℕ → ℕ → Type 0
-Leads w v f o = (wholeCell w v f o >>= λ k. ok (cellValue w k)) ≡ ok (o - 1)
+-- the rest of a walk that is where s says, of fewer cells than there are objects and one more
+abbrev pub restOf : List ℕ → View → ℕ → Reached → Try Stop ℕ
+restOf w v f s = walkIn w v (λ _. true) f (suc (v .objects) - s .passed) (s .at) (s .last)
 
--- a walk that is at the object o, after `last` and i others, comes to be where r says
-pub record Reaches (w : List ℕ) (v : View) (f o last i : ℕ) (r : Reached) : Type 0 where
-  pub further : i ≤ r .passed
-  pub walked :
-      walkIn w v (λ _. true) f (suc (v .objects) - r .passed) (r .at) (r .last) ≡ walkIn w v (λ _. true) f (suc (v .objects) - i) o last
+-- it comes to be where r says, and where it does not come on it is over
+pub record Reaches (w : List ℕ) (v : View) (f : ℕ) (s r : Reached) : Type 0 where
+  pub further : s .passed ≤ r .passed
+  pub walked : restOf w v f r ≡ restOf w v f s
+  pub over : s .passed ≤ v .objects → r .passed ≡ s .passed → restOf w v f s ≡ walkEnd (r .at) (r .last)

@@ -1,7 +1,7 @@
 // The machine's stores in the work area: values, objects, frames; a location found, tested and read. Who holds it is in `holders`.
 mod chains;
 mod holders;
-mod neighbours;
+mod strides;
 
 pub use chains::Cache;
 pub use chains::cache_of;
@@ -12,8 +12,8 @@ pub use chains::whole_by;
 pub use holders::halves_held;
 pub use holders::hand_over;
 use holders::held_cell;
-pub use neighbours::walk_near;
 use rules::Machine;
+pub use strides::walk_strided;
 use tables::ClassAt;
 use tables::Expr;
 use tables::Layout;
