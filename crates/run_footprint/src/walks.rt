@@ -123,7 +123,7 @@ pub fn walk_after(
     ensures { λ r. ⌜ readIs r ≡ walkIn (now (work .entry)) v (freeOf (take n (now (shares .entry)))) f (suc (v .objects)) o 0 ⌝ }
 {
     if n == 0 {
-        return run_heap::walk(work, v, f, o);
+        return run_heap::walk_strided(work, v, f, o);
     }
     walk_beside(work, v, f, o, shares, seen, n)
 }

@@ -5,16 +5,18 @@ use crate::Spot;
 use crate::Stores;
 use crate::View;
 use crate::cell_at;
+use crate::cell_value;
 use crate::class_of;
 use crate::first_of;
 use crate::holders::held_cell;
 use rules::Machine;
 use tables::ClassAt;
 ghost use mathlib.Core.Path.{_≡_};
+ghost use mathlib.Core.Bool.{true};
 ghost use Prim.Native.Nat.{suc, _<_};
 ghost use Rattle.tables.specs.Layout.{most-names};
 ghost use Rattle.run_heap.specs.Views.{cellOf, present, foundOf, Readable, readIs, spotIs};
-ghost use Rattle.run_heap.specs.Chains.{Caches, wholeCell, walkEnd};
+ghost use Rattle.run_heap.specs.Chains.{Caches, wholeCell, walkIn, walkEnd};
 
 // An inline cache: the place of one field in the class of which most objects of a walk are.
 pub struct Cache {
@@ -102,4 +104,26 @@ pub fn walk_end(o: u32, last: u32) -> Read
         return Read::Got(last);
     }
     Read::Lacking(Fault::Permission)
+}
+
+// "going by f from x reaches null and every location passed is held whole", x the object o: the last object, 0 where o is null. "The walk stops
+// with 26 at a location that it has passed itself (a ring)": that passes more locations than there are objects.
+pub fn walk(work: &[u8], v: View, f: usize, o: u32) -> Read
+    requires { ⌜ Readable (now work) v × (f < most-names) ⌝ }
+    ensures { λ r. ⌜ readIs r ≡ walkIn (now (work .entry)) v (λ _. true) f (suc (v .objects)) o 0 ⌝ }
+{
+    let c = cache_of(work, v, f, o);
+    let mut last = 0;
+    let mut at = o;
+    let n = v.objects;
+    let mut i = 0;
+    while i <= n {
+        let Spot::At(k) = whole_by(work, v, c, f, at) else {
+            return walk_end(at, last);
+        };
+        last = at;
+        at = cell_value(work, k);
+        i += 1;
+    }
+    Read::Lacking(Fault::False)
 }

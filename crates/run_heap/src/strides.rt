@@ -31,8 +31,8 @@ fn stride(work: &[u8], v: View, c: Cache, f: usize, from: Reached, d: u32) -> Re
     let mut at = from.at;
     let mut last = from.last;
     let mut i = from.passed;
-    let most = v.objects;
-    while i <= most {
+    let n = v.objects;
+    while i <= n {
         let Spot::At(k) = whole_by(work, v, c, f, at) else {
             return Reached {
                 at: at,
@@ -60,9 +60,8 @@ fn stride(work: &[u8], v: View, c: Cache, f: usize, from: Reached, d: u32) -> Re
     }
 }
 
-// "going by f from x reaches null and every location passed is held whole", x the object o: the last object, 0 where o is null. "The walk stops
-// with 26 at a location that it has passed itself (a ring)": that passes more locations than there are objects.
-pub fn walk(work: &[u8], v: View, f: usize, o: u32) -> Read
+// `walk`, in strides.
+pub fn walk_strided(work: &[u8], v: View, f: usize, o: u32) -> Read
     requires { ⌜ Readable (now work) v × (f < most-names) ⌝ }
     ensures { λ r. ⌜ readIs r ≡ walkIn (now (work .entry)) v (λ _. true) f (suc (v .objects)) o 0 ⌝ }
 {

@@ -6,8 +6,8 @@ use Rattle.run_heap.specs.Views.{readIs, stopOf}
 use Rattle.run_heap.specs.Chains.{walkIn}
 use Rattle.run_heap.proofs.Walking.{walk-over}
 use borrow.Author.Needs.{needs}
-use Rattle.run_heap.proofs.strides.walk.Statement.{statement}
-use Rattle.run_heap.proofs.strides.walk.Tie as tie
+use Rattle.run_heap.proofs.strides.walk_strided.Statement.{statement}
+use Rattle.run_heap.proofs.strides.walk_strided.Tie as tie
 
 abbrev Inv-loop : tie.InvT-loop
 Inv-loop work v f o c last₀ at₀ d₀ n i₀ last at d i = walkIn work v (λ _. true) f (suc n - i) at last ≡ walkIn work v (λ _. true) f (suc n) o 0
@@ -36,7 +36,7 @@ returns c =
     let at-loop = c .before .before .before .before .before .loop in
     let at-loop-test = c .before .before .before .before .loop-test in
     let at-stride = c .before .before .before .stride in
-    c .walk-end .ensures ∙ (sym (at-stride .ensures .over (omega (arith, at-loop-test .taken)) (c .before .if1 .taken)) ∙ at-loop .inv)
+    c .walk-end .ensures ∙ (sym (at-stride .ensures .over (at-loop-test .taken) (c .before .if1 .taken)) ∙ at-loop .inv)
 
 wrapping-sub-u32-requires : tie.Need-wrapping-sub-u32-requires Inv-loop μ-loop
 wrapping-sub-u32-requires c κs = search needs
@@ -57,8 +57,8 @@ returns-2 : tie.Need-returns-2 Inv-loop μ-loop
 unfolding readIs stopOf
 returns-2 c = sym (walk-over _ _ _ _ _ _ _ _ (omega (arith, c .loop-test .left))) ∙ c .before .loop .inv
 
-pub walk-spec : {M : Type 1} → statement M
-walk-spec =
+pub walk-strided-spec : {M : Type 1} → statement M
+walk-strided-spec =
     tie.close
     (tie.spec
     Inv-loop
