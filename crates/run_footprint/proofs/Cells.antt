@@ -17,8 +17,9 @@ use Rattle.tables.specs.Tables.{Tables, placeAt}
 use Rattle.tables.specs.Stores.{SameTables}
 use Rattle.tables.proofs.Decoding.{tables-same, classes-count-same, field-count-same, place-same}
 use Rattle.run_heap.specs.declared.View.{View}
+use Rattle.run_heap.specs.declared.chains.Cache.{Cache}
 use Rattle.run_heap.specs.Views.{cellValue, classIn, firstIn, placed, cellOf, handed, ObjectFits, Readable}
-use Rattle.run_heap.specs.Chains.{atCell, cellsBy}
+use Rattle.run_heap.specs.Chains.{atCell, cellsBy, Caches}
 use Rattle.run_heap.proofs.Reading.{cell-small}
 use Rattle.run_heap.proofs.Walking.{cells-more, cells-end}
 use Rattle.run_footprint.specs.Footprints.{shareOf, marked, chainMarked, isChain, fieldIn, startIn, spreadOne}
@@ -85,6 +86,14 @@ module _ {w w′ : List ℕ} {v : View} (s : Only holders-at objects-at w w′) 
         base = R .base;
         objects = R .objects;
         object = λ i l. fits-kept w w′ same-tables (R .tables) heap-fields i (objects-same .class i l) (objects-same .first i l) (R .object i l);
+      }
+
+  pub caches-kept : (f : ℕ) (c : Cache) → f < most-names → Caches w f c → Caches w′ f c
+  caches-kept f c l K =
+      record {
+        small = K .small;
+        is-place = λ h. place-same w w′ same-tables (c .class) h f l ∙ K .is-place h;
+        has-place = K .has-place;
       }
 
   pub cells-kept : (f m o : ℕ) → cellsBy w′ (v .objects) f m o ≡ cellsBy w (v .objects) f m o

@@ -3,6 +3,7 @@ use crate::SHARE;
 use crate::SIEVE;
 use crate::Shares;
 use crate::Took;
+use crate::walks::walk_after;
 use run_heap::Fault;
 use run_heap::Read;
 use run_heap::Spot;
@@ -13,16 +14,16 @@ use tables::Layout;
 ghost use mathlib.Core.Path.{_≡_};
 ghost use mathlib.Core.Bool.{_&&_};
 ghost use mathlib.Core.List.{[], _∷_};
-ghost use Prim.Native.Nat.{suc, _≤_, _<_};
+ghost use Prim.Native.Nat.{_≤_, _<_};
 ghost use lib.Dec.{eqb};
 ghost use lib.ListN.{length, take};
 ghost use Rattle.rules.specs.Base.{any};
 ghost use Rattle.tables.specs.Numbers.{chain-atom};
 ghost use Rattle.tables.specs.Layout.{most-names};
 ghost use Rattle.tables.specs.Decode.{atomCount, atomAt, atomKindAt};
-ghost use Rattle.run_heap.specs.Views.{whole, Readable, readIs, spotIs};
-ghost use Rattle.run_heap.specs.Chains.{freeCell, walkIn, cellsBy};
-ghost use Rattle.run_footprint.specs.Footprints.{isChain, startIn, fieldIn, chainPart, shareAt, freeOf, endsBy, newChain, chainMarked, takeIn, footprint-shares, sieve-bytes, AllSeen, TookOne, RoomAfter};
+ghost use Rattle.run_heap.specs.Views.{whole, Readable};
+ghost use Rattle.run_heap.specs.Chains.{cellsBy};
+ghost use Rattle.run_footprint.specs.Footprints.{isChain, startIn, fieldIn, chainPart, endsBy, newChain, chainMarked, takeIn, footprint-shares, sieve-bytes, AllSeen, TookOne, RoomAfter};
 
 // So many values have the objects' numbers.
 const WORDS: usize = 4294967296;
@@ -81,96 +82,6 @@ pub fn chain_part(work: &[u8], v: View, f: usize, s: usize, k: usize) -> usize
         return Stores::WHOLE;
     }
     0
-}
-
-// Whether a share is of the cell k.
-fn share_at(s: usize, k: usize) -> bool
-    ensures { λ r. ⌜ r ≡ shareAt k s ⌝ }
-{
-    if is_chain(s) {
-        return false;
-    }
-    s / SHARE == k
-}
-
-// Whether one of the first n shares is.
-fn shared(shares: &Shares, n: usize, k: usize) -> bool
-    requires { ⌜ (n ≤ footprint-shares) × (length (now shares) ≡ footprint-shares) ⌝ }
-    ensures { λ r. ⌜ r ≡ any (shareAt k) (take n (now (shares .entry))) ⌝ }
-{
-    let mut i = 0;
-    while i < n {
-        let s = shares[i];
-        if share_at(s, k) {
-            return true;
-        }
-        i += 1;
-    }
-    false
-}
-
-// The same, where they are looked at only if the remainder of k has been seen.
-fn seen_shared(shares: &Shares, seen: &[u8; SIEVE], n: usize, k: usize) -> bool
-    requires { ⌜ RoomAfter (now shares) (now seen) n ⌝ }
-    ensures { λ r. ⌜ r ≡ any (shareAt k) (take n (now (shares .entry))) ⌝ }
-{
-    let r = k % SIEVE;
-    let b = seen[r];
-    if b == 0 {
-        return false;
-    }
-    shared(shares, n, k)
-}
-
-// The cell of a field of the object o, which the view's number must hold whole, and of which no share is.
-fn free_cell(
-    work: &[u8],
-    v: View,
-    f: usize,
-    o: u32,
-    shares: &Shares,
-    seen: &[u8; SIEVE],
-    n: usize,
-) -> Spot
-    requires { ⌜ (Readable (now work) v × (f < most-names)) × RoomAfter (now shares) (now seen) n ⌝ }
-    ensures { λ r. ⌜ spotIs r ≡ freeCell (now (work .entry)) v (freeOf (take n (now (shares .entry)))) f o ⌝ }
-{
-    let t = run_heap::whole_cell(work, v, f, o);
-    let Spot::At(k) = t else {
-        return t;
-    };
-    if seen_shared(shares, seen, n, k) {
-        return Spot::Lacking(Fault::Permission);
-    }
-    Spot::At(k)
-}
-
-// `run_heap::walk` beside n shares: "24 at one .. taken by an earlier atom".
-fn walk_beside(
-    work: &[u8],
-    v: View,
-    f: usize,
-    o: u32,
-    shares: &Shares,
-    seen: &[u8; SIEVE],
-    n: usize,
-) -> Read
-    requires { ⌜ (Readable (now work) v × (f < most-names)) × RoomAfter (now shares) (now seen) n ⌝ }
-    ensures { λ r. ⌜ readIs r ≡ walkIn (now (work .entry)) v (freeOf (take n (now (shares .entry)))) f (suc (v .objects)) o 0 ⌝ }
-{
-    let mut last = 0;
-    let mut at = o;
-    let m = v.objects;
-    let mut i = 0;
-    while i <= m {
-        let Spot::At(k) = free_cell(work, v, f, at, shares, seen, n) else {
-            return run_heap::walk_end(at, last);
-        };
-        last = at;
-        at = run_heap::cell_value(work, k);
-        i += 1;
-    }
-    Read::Lacking(Fault::False)
 }
 
 // Whether a share is a chain by f.
@@ -266,7 +177,7 @@ pub fn take_chain(
         return Took::Shares(n);
     }
     let s = (o as usize * Layout::FIELD_NAMES + f) * SHARE + AtomKind::CHAIN;
-    match walk_beside(work, v, f, o, shares, seen, n) {
+    match walk_after(work, v, f, o, shares, seen, n) {
         Read::Got(last) => put_chain(work, v, shares, seen, n, s, last),
         Read::Lacking(t) => Took::Lacking(t),
     }
@@ -279,10 +190,11 @@ pub fn mark_chain(work: &mut [u8], v: View, s: usize, to: u32)
 {
     let f = field_of(s);
     let mut at = start_of(s);
+    let c = run_heap::cache_of(work, v, f, at);
     let n = v.objects;
     let mut i = 0;
     while i < n {
-        let Spot::At(k) = run_heap::cell_of(work, v, at, f) else {
+        let Spot::At(k) = run_heap::cell_by(work, v, c, at, f) else {
             return;
         };
         at = run_heap::cell_value(work, k);

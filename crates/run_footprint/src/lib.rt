@@ -1,5 +1,6 @@
-// What a formula takes, and who holds it then. Chains are in `chains`.
+// What a formula takes, and who holds it then. Chains are in `chains`, their walks in `walks`.
 mod chains;
+mod walks;
 
 use chains::chain_part;
 use chains::is_chain;

@@ -4,19 +4,20 @@ use mathlib.Core.Bool.{Bool, true, false}
 use mathlib.Core.List.{List, [], _∷_}
 use mathlib.Core.Logic.{⊎-elim}
 use mathlib.Core.Option.{Option, none, some}
-use Prim.Native.Nat.{ℕ, suc, _+_, _-_, _≤_, _<_}
+use Prim.Native.Nat.{ℕ, suc, _+_, _-_, _%_, _≤_, _<_}
 use native.Mathlib.Omega.{arith}
 use lib.Dec.{leb, leb→le}
 use borrow.Author.Tests.{eq-eqb, ne-eqb}
-use Rattle.rules.specs.Limits.{heap-fields}
+use Rattle.rules.specs.Limits.{heap-objects, heap-fields}
 use Rattle.rules.specs.Base.{Try, ok, no, _>>=_, _>>_, check}
 use Rattle.rules.specs.Answers.{Stop, permissionMissing, formulaFalse}
 use Rattle.rules.proofs.Lists.{decide-eq, none-some}
 use Rattle.rules.proofs.Tries.{bind-ok, check-ok, ok-inj, no-ok}
+use Rattle.tables.specs.Numbers.{word-values}
 use Rattle.run_heap.specs.declared.View.{View}
 use Rattle.run_heap.specs.Views.{halvesAt, cellValue, cellOf, present, foundOf, heldCell, Readable}
 use Rattle.run_heap.specs.Chains.{wholeCell, freeCell, walkIn, walkEnd, atCell, cellsBy}
-use Rattle.run_heap.proofs.Reading.{cell-null, cell-small, found-is}
+use Rattle.run_heap.proofs.Reading.{cell-null, cell-beyond, cell-small, found-is, found-next}
 
 module _ (w : List ℕ) (v : View) (f : ℕ) where
   -- the cell of an object whose location is held whole
@@ -107,6 +108,19 @@ module _ (w : List ℕ) (v : View) (f : ℕ) (free : ℕ → Bool) (n i o last :
   pub walk-over : n < i → walkIn w v free f (suc n - i) o last ≡ no formulaFalse
   unfolding walkIn
   walk-over l = let b : suc n - i ≡ 0 = omega arith in rw b
+
+-- OBJECTS BY INDEX, r the number before o, round the end of a word
+pub found-object :
+    (w : List ℕ) (n o f r : ℕ) → r < heap-objects → (r + 1) % word-values ≡ o → foundOf w n o f ≡ present (cellOf w n (suc r) f)
+found-object w n o f r h e =
+    let q : r ≡ o - 1 = omega arith in rw q (found-next w n o f (omega arith))
+
+pub found-beyond :
+    (w : List ℕ) (n o f r : ℕ) → r < word-values → (o ≡ 0 → ⊥) → n ≤ r → (r + 1) % word-values ≡ o →
+    foundOf w n o f ≡ no permissionMissing
+unfolding present
+found-beyond w n o f r h z l e =
+    let q : n ≤ o - 1 = omega arith in found-next w n o f z ∙ rw (cell-beyond w n (o - 1) f q)
 
 -- an object without a cell
 pub found-none : (w : List ℕ) (n o f : ℕ) (s : Stop) → foundOf w n o f ≡ no s → cellOf w n o f ≡ none

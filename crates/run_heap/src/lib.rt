@@ -1,14 +1,20 @@
 // The machine's stores in the work area: values, objects, frames; a location found, tested and read. Who holds it is in `holders`.
 mod chains;
 mod holders;
+mod strides;
 
+pub use chains::Cache;
+pub use chains::cache_of;
+pub use chains::cell_by;
 pub use chains::walk;
 pub use chains::walk_end;
-pub use chains::whole_cell;
+pub use chains::whole_by;
 pub use holders::halves_held;
 pub use holders::hand_over;
 use holders::held_cell;
 use rules::Machine;
+pub use strides::walk_strided;
+use tables::ClassAt;
 use tables::Expr;
 use tables::Layout;
 ghost use mathlib.Core.Path.{_≡_};
@@ -63,9 +69,6 @@ const METHOD_AT: usize = ROW_AT + 2;
 
 // Where an object keeps the number of its first cell, after its class.
 const FIRST_AT: usize = 2;
-
-// What `tables::place_at` answers where a class does not have a field.
-const NO_PLACE: usize = 255;
 
 // Why a step is not done.
 pub enum Fault {
@@ -128,7 +131,7 @@ fn cell_at(work: &[u8], v: View, i: usize, f: usize) -> Spot
 {
     let c = class_of(work, i);
     let p = tables::place_at(work, c, f);
-    if p == NO_PLACE {
+    if p == ClassAt::NO_PLACE {
         return Spot::Lacking(Fault::Permission);
     }
     let k = first_of(work, i) + p;

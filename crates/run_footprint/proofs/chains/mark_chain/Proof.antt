@@ -1,22 +1,22 @@
 use mathlib.Core.Path.{_≡_, sym, _∙_}
-use Prim.Native.Nat.{_≤_, _-_}
-use Rattle.tables.specs.Layout.{holders-at, objects-at}
+use Prim.Native.Nat.{_≤_, _<_, _-_}
+use Rattle.tables.specs.Layout.{most-names, holders-at, objects-at}
 use Rattle.run_heap.proofs.Reading.{cell-small, found-is, spot-at, spot-lacking}
 use Rattle.run_heap.proofs.Walking.{found-none}
 use Rattle.run_footprint.specs.Footprints.{chainMarked, fieldIn, startIn}
 use Rattle.run_footprint.proofs.Regions.{Only, only-refl, only-trans}
 use Rattle.run_footprint.proofs.Handing.{only-handed}
-use Rattle.run_footprint.proofs.Cells.{readable-kept, over-on, over-end, over-past}
+use Rattle.run_footprint.proofs.Cells.{readable-kept, caches-kept, over-on, over-end, over-past}
 use borrow.Author.Needs.{needs}
 use native.Mathlib.Omega.{arith}
 use Rattle.run_footprint.proofs.chains.mark_chain.Statement.{statement}
 use Rattle.run_footprint.proofs.chains.mark_chain.Tie as tie
 
 abbrev Inv-loop : tie.InvT-loop
-Inv-loop work₀ v s to f at₀ n i₀ work at i = (i ≤ n) × Only holders-at objects-at work₀ work × (chainMarked work n f (n - i) at (v .holder) to ≡ chainMarked work₀ n (fieldIn s) n (startIn s) (v .holder) to)
+Inv-loop work₀ v s to f at₀ c n i₀ work at i = (i ≤ n) × Only holders-at objects-at work₀ work × (chainMarked work n f (n - i) at (v .holder) to ≡ chainMarked work₀ n (fieldIn s) n (startIn s) (v .holder) to)
 
 abbrev μ-loop : tie.MeasureT-loop
-μ-loop work₀ v s to f at₀ n i₀ work at i = n - i
+μ-loop work₀ v s to f at₀ c n i₀ work at i = n - i
 
 field-of-requires : tie.Need-field-of-requires Inv-loop μ-loop
 field-of-requires c κs =
@@ -26,17 +26,27 @@ start-of-requires : tie.Need-start-of-requires Inv-loop μ-loop
 start-of-requires c κs =
     search needs
 
+cache-of-requires : tie.Need-cache-of-requires Inv-loop μ-loop
+cache-of-requires c κs =
+    let start = c .before .before .before .before in
+    let at-field-of = c .before .before .field-of in
+    (start .pre, omega (arith, at-field-of .ensures))
+
 loop-holds : tie.Need-loop-holds Inv-loop μ-loop
 loop-holds c =
-    let start = c .before .before .before in
-    (omega arith, only-refl _ _ _, let e : start .args .v .objects - 0 ≡ start .args .v .objects = omega arith in rw (e, c .before .field-of .ensures, c .start-of .ensures))
+    let start = c .before .before .before .before .before in
+    let at-field-of = c .before .before .before .field-of in
+    let at-start-of = c .before .before .start-of in
+    (omega arith, only-refl _ _ _, let e : start .args .v .objects - 0 ≡ start .args .v .objects = omega arith in rw (e, at-field-of .ensures, at-start-of .ensures))
 
-cell-of-requires : tie.Need-cell-of-requires Inv-loop μ-loop
-cell-of-requires c κs =
-    let start = c .before .before .before .before .before .before in
-    let at-field-of = c .before .before .before .before .field-of in
+cell-by-requires : tie.Need-cell-by-requires Inv-loop μ-loop
+cell-by-requires c κs =
+    let start = c .before .before .before .before .before .before .before .before in
+    let at-field-of = c .before .before .before .before .before .before .field-of in
+    let at-cache-of = c .before .before .before .cache-of in
     let at-loop = c .before .before .loop in
-    (readable-kept (at-loop .inv .1) (start .pre), omega (arith, at-field-of .ensures))
+    let l : at-field-of .result < most-names = omega (arith, at-field-of .ensures) in
+    ((readable-kept (at-loop .inv .1) (start .pre), caches-kept (at-loop .inv .1) (start .pre) _ _ l (at-cache-of .ensures)), l)
 
 enum-known-k : tie.Need-enum-known-k Inv-loop μ-loop
 enum-known-k c =
@@ -55,24 +65,24 @@ returns : tie.Need-returns Inv-loop μ-loop
 returns c =
     let at-loop = c .before .before .before .before .before .loop in
     let at-loop-test = c .before .before .before .before .loop-test in
-    let at-cell-of = c .before .before .cell-of in
-    sym (over-end _ _ _ _ _ _ _ _ (at-loop-test .taken) (found-none _ _ _ _ _ (spot-lacking _ _ (c .enum-told .given .1) (at-cell-of .ensures)))) ∙ at-loop .inv .2
+    let at-cell-by = c .before .before .cell-by in
+    sym (over-end _ _ _ _ _ _ _ _ (at-loop-test .taken) (found-none _ _ _ _ _ (spot-lacking _ _ (c .enum-told .given .1) (at-cell-by .ensures)))) ∙ at-loop .inv .2
 
 cell-value-requires : tie.Need-cell-value-requires Inv-loop μ-loop
 cell-value-requires c κs =
-    let start = c .before .before .before .before .before .before .before .before .before .before .before in
+    let start = c .before .before .before .before .before .before .before .before .before .before .before .before .before in
     let at-loop = c .before .before .before .before .before .before .before .loop in
-    let at-cell-of = c .before .before .before .before .cell-of in
+    let at-cell-by = c .before .before .before .before .cell-by in
     let at-k = c .before .before .k in
-    let R = readable-kept (at-loop .inv .1) (start .pre) in (R .tables .size, cell-small _ _ (R .tables) (R .object) (found-is _ _ _ _ _ (spot-at _ _ (at-k .given .1) (at-cell-of .ensures))))
+    let R = readable-kept (at-loop .inv .1) (start .pre) in (R .tables .size, cell-small _ _ (R .tables) (R .object) (found-is _ _ _ _ _ (spot-at _ _ (at-k .given .1) (at-cell-by .ensures))))
 
 hand-over-requires : tie.Need-hand-over-requires Inv-loop μ-loop
 hand-over-requires c κs =
-    let start = c .before .before .before .before .before .before .before .before .before .before .before .before .before in
+    let start = c .before .before .before .before .before .before .before .before .before .before .before .before .before .before .before in
     let at-loop = c .before .before .before .before .before .before .before .before .before .loop in
-    let at-cell-of = c .before .before .before .before .before .before .cell-of in
+    let at-cell-by = c .before .before .before .before .before .before .cell-by in
     let at-k = c .before .before .before .before .k in
-    let R = readable-kept (at-loop .inv .1) (start .pre) in (R .tables .size, cell-small _ _ (R .tables) (R .object) (found-is _ _ _ _ _ (spot-at _ _ (at-k .given .1) (at-cell-of .ensures))))
+    let R = readable-kept (at-loop .inv .1) (start .pre) in (R .tables .size, cell-small _ _ (R .tables) (R .object) (found-is _ _ _ _ _ (spot-at _ _ (at-k .given .1) (at-cell-by .ensures))))
 
 add-i : tie.Need-add-i Inv-loop μ-loop
 add-i c =
@@ -84,15 +94,15 @@ loop-less c =
 
 loop-again : tie.Need-loop-again Inv-loop μ-loop
 loop-again c =
-    let start = c .before .before .before .before .before .before .before .before .before .before .before .before .before .before .before .before in
+    let start = c .before .before .before .before .before .before .before .before .before .before .before .before .before .before .before .before .before .before in
     let at-loop = c .before .before .before .before .before .before .before .before .before .before .before .before .loop in
     let at-loop-test = c .before .before .before .before .before .before .before .before .before .before .before .loop-test in
-    let at-cell-of = c .before .before .before .before .before .before .before .before .before .cell-of in
+    let at-cell-by = c .before .before .before .before .before .before .before .before .before .cell-by in
     let at-k = c .before .before .before .before .before .before .before .k in
     let at-cell-value = c .before .before .before .before .cell-value in
     let at-hand-over = c .before .before .hand-over in
     let R = readable-kept (at-loop .inv .1) (start .pre) in
-    let e = found-is _ _ _ _ _ (spot-at _ _ (at-k .given .1) (at-cell-of .ensures)) in
+    let e = found-is _ _ _ _ _ (spot-at _ _ (at-k .given .1) (at-cell-by .ensures)) in
     (omega arith, rw (at-hand-over .ensures) (only-trans (at-loop .inv .1) (only-handed _ _ _ _ _ (cell-small _ _ (R .tables) (R .object) e))), rw (at-hand-over .ensures, at-cell-value .ensures) (over-on _ _ _ _ _ _ _ _ _ (at-loop-test .taken) e ∙ at-loop .inv .2))
 
 same-length-2 : tie.Need-same-length-2 Inv-loop μ-loop
@@ -111,8 +121,9 @@ mark-chain-spec =
     μ-loop
     field-of-requires
     start-of-requires
+    cache-of-requires
     loop-holds
-    cell-of-requires
+    cell-by-requires
     enum-known-k
     enum-told
     same-length

@@ -49,8 +49,8 @@ add-s-2 c =
     let at-atom-field = c .before .before .atom-field in
     omega (arith, at-atom-field .ensures .1)
 
-walk-beside-requires : tie.Need-walk-beside-requires
-walk-beside-requires c κs =
+walk-after-requires : tie.Need-walk-after-requires
+walk-after-requires c κs =
     let start = c .before .before .before .before .before .before .before in
     let at-atom-field = c .before .before .before .before .atom-field in
     let g = access-fits _ _ (start .pre .0 .0 .tables .atom-fits (start .args .a) (start .pre .0 .1 .0)) (omega (arith, start .pre .0 .1 .1)) in ((start .pre .0 .0, omega (arith, at-atom-field .ensures .0, g .1)), start .pre .1)
@@ -73,11 +73,11 @@ returns-2 c =
     let at-atom-field = c .before .before .before .before .before .before .before .before .before .before .before .atom-field in
     let at-variable = c .before .before .before .before .before .before .before .before .before .before .variable in
     let at-if1 = c .before .before .before .before .before .before .before .before .before .if1 in
-    let at-walk-beside = c .before .before .before .before .before .before .walk-beside in
+    let at-walk-after = c .before .before .before .before .before .before .walk-after in
     let at-last = c .before .before .before .before .last in (
       record {
         took = c .put-chain .ensures .0 .took ∙ sym (chain-takes _ (start .args .v) (start .args .a) _ _ _ _ (start .pre .0 .0 .tables .atom-fits (start .args .a) (start .pre .0 .1 .0)) (start .pre .0 .1 .1) (at-atom-variable .ensures .0) (at-atom-field .ensures .0) (at-variable .ensures)
-            ∙ chain-walked _ _ _ _ _ _ (at-if1 .left) (read-got _ _ (at-last .given .1) (at-walk-beside .ensures)));
+            ∙ chain-walked _ _ _ _ _ _ (at-if1 .left) (read-got _ _ (at-last .given .1) (at-walk-after .ensures)));
         count = c .put-chain .ensures .0 .count;
         size = c .put-chain .ensures .0 .size;
       },
@@ -92,10 +92,10 @@ returns-3 c =
     let at-atom-field = c .before .before .before .before .before .before .before .before .atom-field in
     let at-variable = c .before .before .before .before .before .before .before .variable in
     let at-if1 = c .before .before .before .before .before .before .if1 in
-    let at-walk-beside = c .before .before .before .walk-beside in (
+    let at-walk-after = c .before .before .before .walk-after in (
       record {
         took = sym (chain-takes _ (start .args .v) (start .args .a) _ _ _ _ (start .pre .0 .0 .tables .atom-fits (start .args .a) (start .pre .0 .1 .0)) (start .pre .0 .1 .1) (at-atom-variable .ensures .0) (at-atom-field .ensures .0) (at-variable .ensures)
-            ∙ chain-stops _ _ _ _ _ _ (at-if1 .left) (read-lacking _ _ (c .before .t .given .1) (at-walk-beside .ensures)));
+            ∙ chain-stops _ _ _ _ _ _ (at-if1 .left) (read-lacking _ _ (c .before .t .given .1) (at-walk-after .ensures)));
         count = omega arith;
         size = start .pre .1 .0 .1;
       },
@@ -115,7 +115,7 @@ take-chain-spec =
     add-s
     mul-s-2
     add-s-2
-    walk-beside-requires
+    walk-after-requires
     enum-known-last
     put-chain-requires
     enum-known-t

@@ -2,8 +2,8 @@ use mathlib.Core.Path.{sym}
 use Rattle.run_footprint.proofs.Sieves.{untouched-shares}
 use native.Mathlib.Omega.{arith}
 use borrow.Author.Needs.{needs}
-use Rattle.run_footprint.proofs.chains.seen_shared.Statement.{statement}
-use Rattle.run_footprint.proofs.chains.seen_shared.Tie as tie
+use Rattle.run_footprint.proofs.walks.seen_shared.Statement.{statement}
+use Rattle.run_footprint.proofs.walks.seen_shared.Tie as tie
 
 element-copy-out-b : tie.Need-element-copy-out-b
 element-copy-out-b c = search needs

@@ -6,8 +6,8 @@ use Rattle.run_footprint.specs.Footprints.{shareAt}
 use Rattle.run_footprint.proofs.Shares.{any-here, any-on, any-past}
 use borrow.Author.Needs.{needs}
 use native.Mathlib.Omega.{arith}
-use Rattle.run_footprint.proofs.chains.shared.Statement.{statement}
-use Rattle.run_footprint.proofs.chains.shared.Tie as tie
+use Rattle.run_footprint.proofs.walks.shared.Statement.{statement}
+use Rattle.run_footprint.proofs.walks.shared.Tie as tie
 
 abbrev Inv-loop : tie.InvT-loop
 Inv-loop shares n k i₀ i = (i ≤ n) × (any (shareAt k) (drop i (take n shares)) ≡ any (shareAt k) (take n shares))

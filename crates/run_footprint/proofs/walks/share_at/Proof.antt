@@ -1,7 +1,7 @@
 use Rattle.run_footprint.specs.Footprints.{shareAt}
 use borrow.Author.Needs.{needs}
-use Rattle.run_footprint.proofs.chains.share_at.Statement.{statement}
-use Rattle.run_footprint.proofs.chains.share_at.Tie as tie
+use Rattle.run_footprint.proofs.walks.share_at.Statement.{statement}
+use Rattle.run_footprint.proofs.walks.share_at.Tie as tie
 
 is-chain-requires : tie.Need-is-chain-requires
 is-chain-requires c κs = search needs

@@ -8,23 +8,27 @@ use Rattle.run_heap.proofs.Walking.{free-small, walk-next, walk-stops, walk-ove
 use Rattle.run_footprint.specs.Footprints.{freeOf}
 use borrow.Author.Needs.{needs}
 use native.Mathlib.Omega.{arith}
-use Rattle.run_footprint.proofs.chains.walk_beside.Statement.{statement}
-use Rattle.run_footprint.proofs.chains.walk_beside.Tie as tie
+use Rattle.run_footprint.proofs.walks.walk_beside.Statement.{statement}
+use Rattle.run_footprint.proofs.walks.walk_beside.Tie as tie
 
 abbrev Inv-loop : tie.InvT-loop
-Inv-loop work v f o shares seen n last₀ at₀ m i₀ last at i = (i ≤ suc m) × (walkIn work v (freeOf (take n shares)) f (suc m - i) at last ≡ walkIn work v (freeOf (take n shares)) f (suc m) o 0)
+Inv-loop work v f o shares seen n c last₀ at₀ m i₀ last at i = (i ≤ suc m) × (walkIn work v (freeOf (take n shares)) f (suc m - i) at last ≡ walkIn work v (freeOf (take n shares)) f (suc m) o 0)
 
 abbrev μ-loop : tie.MeasureT-loop
-μ-loop work v f o shares seen n last₀ at₀ m i₀ last at i = suc m - i
+μ-loop work v f o shares seen n c last₀ at₀ m i₀ last at i = suc m - i
+
+cache-of-requires : tie.Need-cache-of-requires Inv-loop μ-loop
+cache-of-requires c κs = search needs
 
 loop-holds : tie.Need-loop-holds Inv-loop μ-loop
 loop-holds c =
-    (omega arith, let e : suc (c .before .args .v .objects) - 0 ≡ suc (c .before .args .v .objects) = omega arith in rw e)
+    let start = c .before .before in
+    (omega arith, let e : suc (start .args .v .objects) - 0 ≡ suc (start .args .v .objects) = omega arith in rw e)
 
 free-cell-requires : tie.Need-free-cell-requires Inv-loop μ-loop
 free-cell-requires c κs =
-    let start = c .before .before .before in
-    start .pre
+    let start = c .before .before .before .before in
+    (((start .pre .0 .0, c .before .before .cache-of .ensures), start .pre .0 .1), start .pre .1)
 
 enum-known-k : tie.Need-enum-known-k Inv-loop μ-loop
 enum-known-k c = search needs
@@ -44,13 +48,13 @@ returns c =
 
 cell-value-requires : tie.Need-cell-value-requires Inv-loop μ-loop
 cell-value-requires c κs =
-    let start = c .before .before .before .before .before .before .before in
+    let start = c .before .before .before .before .before .before .before .before in
     let at-free-cell = c .before .before .before .free-cell in
     (start .pre .0 .0 .tables .size, free-small _ _ _ _ _ _ (start .pre .0 .0) (spot-at _ _ (c .before .k .given .1) (at-free-cell .ensures)))
 
 add-i : tie.Need-add-i Inv-loop μ-loop
 add-i c =
-    let start = c .before .before .before .before .before .before .before .before in
+    let start = c .before .before .before .before .before .before .before .before .before in
     omega (arith, start .pre .0 .0 .objects)
 
 loop-less : tie.Need-loop-less Inv-loop μ-loop
@@ -76,6 +80,7 @@ walk-beside-spec =
     (tie.spec
     Inv-loop
     μ-loop
+    cache-of-requires
     loop-holds
     free-cell-requires
     enum-known-k
