@@ -138,20 +138,20 @@ module _ {w : List ℕ} {c : Counters} (k : AtKind w c Call) where
         let (A, e, _) = try-ok (footprint (m .heap) (callFrame m M Y Z) (M .requires)) _ _ (footprint-only (m .heap) (callFrame m M Y Z) (M .requires)) u in
         (λ q. T-not (eqb (valueOf (m .frame) Y) 0) n (subst T (sym (eq-eqb _ 0 q)) tt), (A, e))
 
-    a-object : eqb (valueOf (m .frame) Y) 0 ≡ false
-    a-object = ne-eqb _ 0 (passes .0)
+    is-object : eqb (valueOf (m .frame) Y) 0 ≡ false
+    is-object = ne-eqb _ 0 (passes .0)
 
     -- frames are full
     pub call-full : most-frames ≤ c .frames → step wholeHeap (programIn w) m ≡ stop (stopOf Stop.FramesFull)
     unfolding callStep check _>>_ _>>=_ took stopOf stopIn Lean.stopOf
     call-full l =
         is-here
-        ∙ rw (a-object, passes .1 .1, le-ltb (suc (length (m .callers))) most-frames (omega (arith, l, S .represents .frames)))
+        ∙ rw (is-object, passes .1 .1, le-ltb (suc (length (m .callers))) most-frames (omega (arith, l, S .represents .frames)))
 
     module _ (lf : c .frames < most-frames) where
       goes : callHere v K m ≡ on (entered m (callFrame m M Y Z) (passes .1 .0))
       unfolding callStep check _>>_ _>>=_ took
-      goes = rw (a-object, passes .1 .1, lt-ltb (suc (length (m .callers))) most-frames (omega (arith, lf, S .represents .frames)))
+      goes = rw (is-object, passes .1 .1, lt-ltb (suc (length (m .callers))) most-frames (omega (arith, lf, S .represents .frames)))
 
       module _
           (y z o p n : ℕ) (ey : y ≡ yAt w (c .row)) (ez : z ≡ zAt w (c .row)) (en : n ≡ memberAt w (c .row))
@@ -186,10 +186,9 @@ module _ {w : List ℕ} {c : Counters} (k : AtKind w c Call) where
             go (ok ss) e = (ss, e)
             go (no s) e =
                 let (f, q) = fault-of s in
-                not-stopped f _ (S .represents)
+                not-stopped goes
                 (Calls.calls (ghost-ready S more) (kind-is S k) y z n o p (ey ∙ y-is S) (ez ∙ z-is S) (en ∙ member-is S) o-is p-is lo lp u
-                (Full.Turn.Stopped f) not-null (inr (f, e ∙ ap no q, refl, refl)))
-                goes
+                (Full.Turn.Stopped f) not-null (inr (f, e ∙ ap no q, refl, refl)) .follows m (S .represents) .0)
 
         pub call-on :
             Follows (framed w (frameAt (c .frames - 1)) (frameAt (c .frames - 1) + 72) (c .row) o p) c

@@ -1,15 +1,11 @@
 -- Where the definition goes on, the full machine on the ghost does not stop.
 use mathlib.Core.Path.{_≡_, refl, sym, _∙_}
-use mathlib.Core.List.{List}
 use Prim.Native.Nat.{ℕ}
 use native.Mathlib.Omega.{arith}
 use Rattle.rules.specs.Answers.{Stop, heapFull, framesFull, permissionMissing, nullFollowed, formulaFalse, overflow}
 use Rattle.rules.specs.Machine.{Config, Step, on, stop}
-use Rattle.rules.specs.declared.Machine.{Machine}
 use Rattle.run_heap.specs.declared.Fault.{Fault}
 use Rattle.run_heap.specs.Views.{stopOf}
-use Rattle.run_steps.specs.declared.Turn.{Turn}
-use Rattle.run_steps.specs.States.{Represents, Does}
 
 -- each stop is one of the code's
 pub fault-of : (s : Stop) → (f : Fault) × (s ≡ stopOf f)
@@ -24,7 +20,5 @@ fault-of overflow = (Fault.Overflow, refl)
 on-stop : {m : Config} {s : Stop} {B : Type 0} → _≡_ {A = Step} (on m) (stop s) → B
 on-stop e = absurd (let z : _≡_ {A = ℕ} 0 1 = cc in omega arith)
 
-pub not-stopped :
-    {v v′ : List ℕ} {K : Machine} {m m′ : Config} {B : Type 0} (f : Fault) (g : Config → Step) → Represents v K m →
-    Does v K v′ (Turn.Stopped f) g → g m ≡ on m′ → B
-not-stopped {m = m} f g R D e = on-stop (sym e ∙ D .follows m R .0)
+pub not-stopped : {s : Step} {m : Config} {t : Stop} {B : Type 0} → s ≡ on m → s ≡ stop t → B
+not-stopped e q = on-stop (sym e ∙ q)
