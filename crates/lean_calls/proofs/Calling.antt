@@ -1,11 +1,11 @@
 -- `call`: the receiver is an object and requires passes, so the full machine enters the method on the ghost, unless frames are full.
 use mathlib.Core.Path.{_≡_, refl, sym, ap, _∙_, subst}
-use mathlib.Core.Bool.{true, false, not}
+use mathlib.Core.Bool.{false, not}
 use mathlib.Core.List.{List, []}
 use mathlib.Core.Logic.{inl, inr}
 use Prim.Native.Nat.{ℕ, suc, _+_, _*_, _-_, _≤_, _<_}
 use native.Mathlib.Omega.{arith}
-use lib.Dec.{T, eqb, ltb, T-not}
+use lib.Dec.{T, eqb, T-not}
 use lib.ListN.{length}
 use borrow.Author.Tests.{lt-ltb, le-ltb, eq-eqb, ne-eqb}
 use Rattle.rules.specs.Limits.{most-frames, most-methods}
@@ -14,7 +14,7 @@ use Rattle.rules.specs.Answers as Answers
 use Rattle.rules.specs.Answers.{nullFollowed}
 use Rattle.rules.specs.Syntax.{Method}
 use Rattle.rules.specs.Grammar.{Call, statementNumber}
-use Rattle.rules.specs.Machine.{Config, Location, Step, on, stop, took, step, valueOf, footprint, callFrame, callStep, entered}
+use Rattle.rules.specs.Machine.{Config, Location, on, stop, took, step, valueOf, footprint, callFrame, callStep, entered}
 use Rattle.rules.specs.Calls.{wholeHeap}
 use Rattle.rules.specs.Lean as Lean
 use Rattle.rules.specs.declared.Machine.{Machine}
@@ -22,10 +22,9 @@ use Rattle.soundness.proofs.LeanFollows.{footprint-only}
 use Rattle.tables.specs.Layout.{frame-variables, frames-at}
 use Rattle.tables.specs.declared.Operands.{Operands}
 use Rattle.tables.specs.Decode.{yAt, zAt, memberAt, methodCount, methodAt, requiresAt, firstRowAt, programIn}
-use Rattle.tables.specs.Stores.{SameTables, putHalf, putWord}
+use Rattle.tables.specs.Stores.{SameTables, putWord}
 use Rattle.tables.proofs.Bytes.{put-word-length}
 use Rattle.tables.proofs.Decoding.{first-row-same}
-use Rattle.run_heap.specs.declared.Fault.{Fault}
 use Rattle.run_heap.specs.Views.{frameAt, variableAt, fill, framePut, prepared, nextView, frame-holder, frame-row, frame-method, frame-parameter}
 use Rattle.run_footprint.specs.Footprints.{spread, marked, takeIn, SharesFit}
 use Rattle.run_footprint.proofs.Regions.{only-word, only-fill, only-tables, only-half, only-trans}

@@ -1,5 +1,5 @@
 -- `new`: the same object in both stores; who holds its locations is in the ghost alone.
-use mathlib.Core.Path.{_≡_, refl, sym, ap, _∙_}
+use mathlib.Core.Path.{_≡_, refl, sym, ap, _∙_, subst}
 use mathlib.Core.List.{List}
 use mathlib.Core.Logic.{_⊎_}
 use Prim.Native.Nat.{ℕ, _+_, _*_, _-_, _≤_, _<_}
@@ -17,11 +17,10 @@ use Rattle.tables.specs.Decode.{xAt, memberAt, fieldCountAt, classCount, progra
 use Rattle.tables.specs.Stores.{SameTables, putHalf, putWord}
 use Rattle.tables.proofs.Bytes.{same-trans, put-half-length}
 use Rattle.tables.proofs.Decoding.{field-count-same}
-use Rattle.run_heap.specs.declared.Fault.{Fault}
 use Rattle.run_heap.specs.Views as Views
 use Rattle.run_heap.specs.Views.{frameAt, viewOf}
 use Rattle.run_footprint.proofs.Regions.{only-word, only-fill, only-tables, only-half, only-byte, only-trans}
-use Rattle.run_steps.specs.States.{Represents, most-count}
+use Rattle.run_steps.specs.States.{Represents}
 use Rattle.run_calls.specs.Calls.{newHere}
 use Rattle.run_calls.proofs.Growing as Grows
 use Rattle.machine.proofs.Stepping.{new-is, does-as}
@@ -91,11 +90,6 @@ module _ {w : List ℕ} {c : Counters} (k : AtKind w c New) (R : CanStep w c) (c
   new-x e = omega (arith, e, x-is (R .stands), fits (R .stands) .x)
 
   module _ (n : ℕ) (en : n ≡ fieldCountAt w class) where
-    pub new-few : (n ≤ 8) × (c .fields ≤ heap-fields)
-    new-few =
-        let S = R .stands in
-        (omega (arith, count-is S en, S .represents .tables .class-fits class (exists S) .count), S .represents .heap .most-fields)
-
     -- THE CODE
     pub heap-full : (heap-objects ≤ c .objects) ⊎ (heap-fields < c .fields + n) → Does w c w (Turn.Stopped Stop.HeapFull)
     unfolding stopOf stopIn Lean.stopOf Views.stopOf
@@ -106,22 +100,27 @@ module _ {w : List ℕ} {c : Counters} (k : AtKind w c New) (R : CanStep w c) (c
         (does-as (here S)
         (Grows.new-stops (ghost-ready S (R .more)) (kind-is S k) heap-objects heap-fields (omega arith) (omega arith) class n (class-is S) (count-is S en) o)))
 
-    module _ (lo : c .objects < heap-objects) (lf : c .fields + n ≤ heap-fields) where
-      pub made-length : length (made w (c .objects) (c .fields) n class) ≡ length w
-      made-length = made-tables w (c .objects) (c .fields) n class lo lf .size
+    -- the object is made, and then x is put
+    module _
+        (lo : c .objects < heap-objects) (lf : c .fields + n ≤ heap-fields) {u : List ℕ}
+        (eu : u ≡ made w (c .objects) (c .fields) n class) where
+      same-made : SameTables w u
+      same-made = subst (SameTables w) (sym eu) (made-tables w (c .objects) (c .fields) n class lo lf)
+
+      pub made-length : length u ≡ length w
+      made-length = same-made .size
 
       pub new-does :
           (b x : ℕ) {w′ : List ℕ} {d : Counters} → b ≡ frameAt (c .frames - 1) → x ≡ xAt w (c .row) →
-          w′ ≡ putWord (made w (c .objects) (c .fields) n class) (b + x * 4) (c .objects + 1) → d ≡ larger c n → Does w c w′ (Turn.On d)
+          w′ ≡ putWord u (b + x * 4) (c .objects + 1) → d ≡ larger c n → Does w c w′ (Turn.On d)
       new-does b x eb ex p q =
-          let u : List ℕ = made w (c .objects) (c .fields) n class in
           does-on p q
-          (same-trans (made-tables w (c .objects) (c .fields) n class lo lf)
+          (same-trans same-made
           (only-tables
           (only-word frames-at (frames-at + 8192) u (b + x * 4) (c .objects + 1) (omega (arith, eb)) (omega (arith, eb, has-frames R .1, new-x ex)))
           (omega arith)))
           (λ m S U.
-          let B = made-bare (c .objects) (c .fields) n class (S .holder) (ghost-size S) lo lf (S .bare) in
+          let B = subst (Bare _) (sym eu) (made-bare (c .objects) (c .fields) n class (S .holder) (ghost-size S) lo lf (S .bare)) in
           on-as S (S .holder) (S .holders)
           (does-as (here S)
           (Grows.new-does (ghost-ready S (R .more)) (kind-is S k) heap-objects heap-fields (omega arith) (omega arith) class n (class-is S) (count-is S en)

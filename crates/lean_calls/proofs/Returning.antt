@@ -1,7 +1,7 @@
 -- `return` and `end`: ensures passes, so the full machine goes back on the ghost. It puts the result into the frame that ends, the lean one
 -- does not: that frame is above the caller's.
 use mathlib.Core.Path.{_≡_, refl, sym, ap, _∙_, subst}
-use mathlib.Core.Bool.{Bool, true, false, cond}
+use mathlib.Core.Bool.{cond}
 use mathlib.Core.List.{List, [], _∷_}
 use mathlib.Core.Logic.{_⊎_, inl, inr, ⊎-elim}
 use Prim.Native.Nat.{ℕ, suc, _+_, _*_, _-_, _≤_, _<_}
@@ -13,22 +13,22 @@ use Rattle.rules.specs.Base.{Try, ok, no, _>>=_}
 use Rattle.rules.specs.Answers as Answers
 use Rattle.rules.specs.Syntax.{Program, result-variable}
 use Rattle.rules.specs.Grammar.{Return, End, statementNumber}
-use Rattle.rules.specs.Machine.{Frame, Config, Location, Step, on, stop, done, took, step, footprint, returnStep, endStep, returned}
+use Rattle.rules.specs.Machine.{Frame, Config, Location, on, done, took, step, footprint, returnStep, endStep, returned}
 use Rattle.rules.specs.Calls.{wholeHeap}
 use Rattle.rules.specs.declared.Machine.{Machine}
 use Rattle.soundness.proofs.LeanFollows.{footprint-only}
 use Rattle.tables.specs.declared.Operands.{Operands}
 use Rattle.tables.specs.Layout.{frame-variables, frames-at}
 use Rattle.tables.specs.Decode.{xAt, ensuresAt, programIn}
-use Rattle.tables.specs.Stores.{SameTables, putWord}
+use Rattle.tables.specs.Stores.{putWord}
 use Rattle.tables.proofs.Bytes.{same-refl, put-word-length}
 use Rattle.run_heap.specs.Views.{frameAt, variableAt, savedHolder, savedRow, methodOf, viewOf}
-use Rattle.run_footprint.specs.Footprints.{spread, marked, takeIn, SharesFit}
+use Rattle.run_footprint.specs.Footprints.{spread, takeIn, SharesFit}
 use Rattle.run_footprint.proofs.Regions.{Only, only-word, only-tables}
 use Rattle.run_footprint.proofs.Handing.{only-marked}
 use Rattle.run_steps.specs.declared.Turn as Full
 use Rattle.run_steps.specs.States as States
-use Rattle.run_steps.specs.States.{CallersAre, Represents, most-count}
+use Rattle.run_steps.specs.States.{CallersAre, Represents}
 use Rattle.run_steps.proofs.Keeping.{same-frame}
 use Rattle.run_steps.proofs.Changes.{this-variable}
 use Rattle.run_returns.specs.Returns.{sourceOf, backHere}
@@ -37,7 +37,7 @@ use Rattle.run_returns.proofs.Resulting.{source-fits, end-ready, followed, retu
 use Rattle.machine.proofs.Stepping.{back-is, does-as}
 use Rattle.lean_heap.specs.declared.Counters.{Counters}
 use Rattle.lean_heap.specs.declared.Turn.{Turn}
-use Rattle.lean_heap.specs.Ghosts.{Bare, Stands, Unstuck, Follows, Does, CanStep, AtKind, full}
+use Rattle.lean_heap.specs.Ghosts.{Stands, Unstuck, Follows, Does, CanStep, AtKind, full}
 use Rattle.lean_heap.proofs.Bares.{word-both, ghost-marked, bare-row}
 use Rattle.lean_heap.proofs.Following.{try-ok, ghost-ready, ghost-tables, ghost-size, row-is, frames-fit, kind-is, step-is, on-as, variable-is, does-on, has-frames}
 use Rattle.lean_calls.specs.Calls.{back}

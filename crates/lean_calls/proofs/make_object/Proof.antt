@@ -1,4 +1,4 @@
-use mathlib.Core.Path.{refl, _∙_}
+use mathlib.Core.Path.{_∙_}
 use Rattle.lean_calls.specs.Calls.{made}
 use borrow.Author.Needs.{needs}
 use Rattle.lean_calls.proofs.make_object.Statement.{statement}
@@ -37,7 +37,7 @@ returns c =
     let at-put-byte = c .before .before .before .before .before .before .before .before .before .before .put-byte in
     let at-put-half = c .before .before .before .before .before .before .put-half in
     let at-fill-words = c .before .before .fill-words in
-    at-fill-words .ensures ∙ rw (at-put-half .ensures, at-put-byte .ensures) refl
+    at-fill-words .ensures ∙ rw (at-put-half .ensures, at-put-byte .ensures)
 
 pub make-object-spec : {M : Type 1} → statement M
 make-object-spec =

@@ -1,10 +1,5 @@
-use denote.Ref.{now}
-use mathlib.Core.Path.{ap, _∙_}
 use mathlib.Core.Logic.{inl, inr}
 use native.Mathlib.Omega.{arith}
-use lib.ListN.{length}
-use Rattle.tables.specs.Stores.{putWord}
-use Prim.Native.Nat.{_+_, _*_}
 use Rattle.lean_heap.proofs.Following.{has-size, has-row}
 use Rattle.lean_calls.proofs.Growing.{new-class, new-x, heap-full, made-length, new-does}
 use borrow.Author.Needs.{needs}
@@ -93,7 +88,7 @@ put-word-requires c κs =
     let at-base-of = c .before .before .before .before .before .before .before .before .before .before .base-of in
     let at-x-at = c .before .before .before .before .before .before .before .before .x-at in
     let at-make-object = c .before .before .before .before .make-object in
-    omega (arith, at-base-of .ensures .1, new-x (start .pre .1) (start .pre .0) _ (at-member-at .ensures .0) (at-x-at .ensures .0), ap (λ u. length u) (at-make-object .ensures), made-length (start .pre .1) (start .pre .0) _ (at-member-at .ensures .0) _ (at-field-count-at .ensures .0) (at-if1 .left) (at-if2 .left), has-size (start .pre .0))
+    omega (arith, at-base-of .ensures .1, new-x (start .pre .1) (start .pre .0) _ (at-member-at .ensures .0) (at-x-at .ensures .0), made-length (start .pre .1) (start .pre .0) _ (at-member-at .ensures .0) _ (at-field-count-at .ensures .0) (at-if1 .left) (at-if2 .left) (at-make-object .ensures), has-size (start .pre .0))
 
 cast-grow : tie.Need-cast-grow
 cast-grow c = search needs
@@ -119,7 +114,7 @@ returns-3 c =
     let at-x-at = c .before .before .before .before .before .before .before .before .before .before .before .before .x-at in
     let at-make-object = c .before .before .before .before .before .before .before .before .make-object in
     let at-put-word = c .before .before .before .put-word in
-    new-does (start .pre .1) (start .pre .0) _ (at-member-at .ensures .0) _ (at-field-count-at .ensures .0) (at-if1 .left) (at-if2 .left) _ _ (at-base-of .ensures .0) (at-x-at .ensures .0) (at-put-word .ensures ∙ ap (λ u. putWord u (at-base-of .result + at-x-at .result * 4) (start .args .c .objects + 1)) (at-make-object .ensures)) (c .grow .ensures)
+    new-does (start .pre .1) (start .pre .0) _ (at-member-at .ensures .0) _ (at-field-count-at .ensures .0) (at-if1 .left) (at-if2 .left) (at-make-object .ensures) _ _ (at-base-of .ensures .0) (at-x-at .ensures .0) (at-put-word .ensures) (c .grow .ensures)
 
 pub new-step-spec : {M : Type 1} → statement M
 new-step-spec =

@@ -1,4 +1,4 @@
-use mathlib.Core.Path.{refl, _∙_}
+use mathlib.Core.Path.{_∙_}
 use Rattle.lean_calls.specs.Calls.{framed}
 use borrow.Author.Needs.{needs}
 use Rattle.lean_calls.proofs.prepare.Statement.{statement}
@@ -35,7 +35,7 @@ returns c =
     let at-put-word = c .before .before .before .before .before .before .before .before .before .before .put-word in
     let at-put-word2 = c .before .before .before .before .before .before .put-word2 in
     let at-put-half = c .before .before .put-half in
-    at-put-half .ensures ∙ rw (at-put-word2 .ensures, at-put-word .ensures, at-fill-words .ensures) refl
+    at-put-half .ensures ∙ rw (at-put-word2 .ensures, at-put-word .ensures, at-fill-words .ensures)
 
 pub prepare-spec : {M : Type 1} → statement M
 prepare-spec =
