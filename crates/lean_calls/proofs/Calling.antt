@@ -20,7 +20,6 @@ use Rattle.rules.specs.Lean as Lean
 use Rattle.rules.specs.declared.Machine.{Machine}
 use Rattle.soundness.proofs.LeanFollows.{footprint-only}
 use Rattle.tables.specs.Layout.{frame-variables, frames-at}
-use Rattle.tables.specs.declared.Operands.{Operands}
 use Rattle.tables.specs.Decode.{yAt, zAt, memberAt, methodCount, methodAt, requiresAt, firstRowAt, programIn}
 use Rattle.tables.specs.Stores.{SameTables, putWord}
 use Rattle.tables.proofs.Bytes.{put-word-length}
@@ -39,7 +38,7 @@ use Rattle.lean_heap.specs.declared.Stop.{Stop}
 use Rattle.lean_heap.specs.declared.Turn.{Turn}
 use Rattle.lean_heap.specs.Ghosts.{Bare, Stands, Unstuck, Follows, Does, CanStep, AtKind, full, stopIn, stopOf}
 use Rattle.lean_heap.proofs.Bares.{half-both, word-both, fill-both, ghost-marked, ghost-holder, ghost-method}
-use Rattle.lean_heap.proofs.Following.{try-ok, check-passes, ghost-ready, ghost-tables, ghost-size, row-is, frames-fit, fits, kind-is, step-is, on-as, variable-is, does-on, does-stop}
+use Rattle.lean_heap.proofs.Following.{try-ok, check-passes, ghost-ready, ghost-tables, ghost-size, y-is, z-is, member-is, y-small, z-small, frames-fit, fits, kind-is, step-is, on-as, variable-is, does-on, does-stop}
 use Rattle.lean_calls.specs.Calls.{called, framed}
 use Rattle.lean_calls.proofs.Stuck.{fault-of, not-stopped}
 
@@ -79,24 +78,6 @@ framed-tables w i row o p l =
     (only-trans (only-word frames-at z (putWord (fill w b frame-variables 0) b o) (b + frame-parameter) p (omega arith) (omega arith))
     (only-half frames-at z (putWord (putWord (fill w b frame-variables 0) b o) (b + frame-parameter) p) (frameAt i + frame-row) row (omega arith) (omega arith)))))
     (omega arith)
-
--- THE OPERANDS
-module _ {w : List ℕ} {c : Counters} {m : Config} (S : Stands w c m) where
-  pub y-is : yAt w (c .row) ≡ yAt (S .ghost) (c .row)
-  y-is = ap (λ (r : Operands). r .y) (row-is S)
-
-  pub z-is : zAt w (c .row) ≡ zAt (S .ghost) (c .row)
-  z-is = ap (λ (r : Operands). r .z) (row-is S)
-
-  pub member-is : memberAt w (c .row) ≡ memberAt (S .ghost) (c .row)
-  member-is = ap (λ (r : Operands). r .member) (row-is S)
-
-module _ {w : List ℕ} {c : Counters} (R : CanStep w c) where
-  pub y-small : {y : ℕ} → y ≡ yAt w (c .row) → y < frame-variables
-  y-small e = omega (arith, e, y-is (R .stands), fits (R .stands) .y)
-
-  pub z-small : {z : ℕ} → z ≡ zAt w (c .row) → z < frame-variables
-  z-small e = omega (arith, e, z-is (R .stands), fits (R .stands) .z)
 
 module _ {w : List ℕ} {c : Counters} (k : AtKind w c Call) where
   pub method-small : CanStep w c → {n : ℕ} → n ≡ memberAt w (c .row) → n < most-methods

@@ -11,7 +11,6 @@ use Rattle.rules.specs.Machine.{Config, step}
 use Rattle.rules.specs.Calls.{wholeHeap}
 use Rattle.rules.specs.Lean as Lean
 use Rattle.rules.specs.declared.Machine.{Machine}
-use Rattle.tables.specs.declared.Operands.{Operands}
 use Rattle.tables.specs.Layout.{frame-variables, values-at, objects-at, frames-at}
 use Rattle.tables.specs.Decode.{xAt, memberAt, fieldCountAt, classCount, programIn}
 use Rattle.tables.specs.Stores.{SameTables, putHalf, putWord}
@@ -29,9 +28,8 @@ use Rattle.lean_heap.specs.declared.Stop.{Stop}
 use Rattle.lean_heap.specs.declared.Turn.{Turn}
 use Rattle.lean_heap.specs.Ghosts.{Bare, Stands, Does, CanStep, AtKind, full, stopIn, stopOf}
 use Rattle.lean_heap.proofs.Bares.{set-both, half-both, word-both, fill-both, ghost-holders}
-use Rattle.lean_heap.proofs.Following.{ghost-ready, ghost-tables, ghost-size, row-is, fits, kind-is, on-as, stop-as, does-on, does-stop, has-frames, has-size}
+use Rattle.lean_heap.proofs.Following.{ghost-ready, ghost-tables, ghost-size, x-is, fits, kind-is, on-as, stop-as, does-on, does-stop, has-frames, has-size, member-is, x-small}
 use Rattle.lean_calls.specs.Calls.{larger, made}
-use Rattle.lean_calls.proofs.Calling.{member-is}
 
 -- THE OBJECT
 made-bare :
@@ -63,9 +61,6 @@ module _ {w : List ℕ} {c : Counters} (k : AtKind w c New) (R : CanStep w c) (c
     abbrev K : Machine
     K = full c (S .holder) (S .holders)
 
-    x-is : xAt w (c .row) ≡ xAt (S .ghost) (c .row)
-    x-is = ap (λ (r : Operands). r .x) (row-is S)
-
     class-is : class ≡ memberAt (S .ghost) (c .row)
     class-is = ec ∙ member-is S
 
@@ -85,9 +80,6 @@ module _ {w : List ℕ} {c : Counters} (k : AtKind w c New) (R : CanStep w c) (c
   -- WHAT IS READ
   pub new-class : class < most-classes
   new-class = class-fits (R .stands)
-
-  pub new-x : {x : ℕ} → x ≡ xAt w (c .row) → x < frame-variables
-  new-x e = omega (arith, e, x-is (R .stands), fits (R .stands) .x)
 
   module _ (n : ℕ) (en : n ≡ fieldCountAt w class) where
     -- THE CODE
@@ -117,7 +109,7 @@ module _ {w : List ℕ} {c : Counters} (k : AtKind w c New) (R : CanStep w c) (c
           does-on p q
           (same-trans same-made
           (only-tables
-          (only-word frames-at (frames-at + 8192) u (b + x * 4) (c .objects + 1) (omega (arith, eb)) (omega (arith, eb, has-frames R .1, new-x ex)))
+          (only-word frames-at (frames-at + 8192) u (b + x * 4) (c .objects + 1) (omega (arith, eb)) (omega (arith, eb, has-frames R .1, x-small R ex)))
           (omega arith)))
           (λ m S U.
           let B = subst (Bare _) (sym eu) (made-bare (c .objects) (c .fields) n class (S .holder) (ghost-size S) lo lf (S .bare)) in
@@ -127,4 +119,4 @@ module _ {w : List ℕ} {c : Counters} (k : AtKind w c New) (R : CanStep w c) (c
           (viewOf (K S)) x lo lf refl (ex ∙ x-is S) refl refl))
           (rw eb
           (word-both (frameAt (c .frames - 1) + x * 4) (c .objects + 1)
-          (omega (arith, sym (B .size), made-length, has-size R, has-frames R .1, new-x ex)) B)))
+          (omega (arith, sym (B .size), made-length, has-size R, has-frames R .1, x-small R ex)) B)))

@@ -2,7 +2,6 @@
 use mathlib.Core.Path.{_≡_, refl, sym, ap, _∙_, subst}
 use mathlib.Core.Bool.{Bool, true, false}
 use mathlib.Core.List.{List}
-use mathlib.Core.Logic.{inl}
 use Prim.Native.Nat.{ℕ, _+_, _*_, _-_, _≤_, _<_}
 use native.Mathlib.Omega.{arith}
 use lib.Dec.{T}
@@ -11,15 +10,15 @@ use Rattle.rules.specs.Limits.{heap-fields, most-statements, most-frames}
 use Rattle.rules.specs.Base.{Try, ok, no, _>>=_, _>>_, check}
 use Rattle.rules.specs.Answers as Answers
 use Rattle.rules.specs.Syntax.{Expr, Program}
-use Rattle.rules.specs.Grammar.{Statement, statementNumber}
-use Rattle.rules.specs.Machine.{Config, Step, on, stop, done, took, step}
+use Rattle.rules.specs.Machine.{Config, Step, stop, took, step}
 use Rattle.rules.specs.Calls.{wholeHeap}
 use Rattle.rules.proofs.Tries.{bind-ok, ok-inj}
 use Rattle.soundness.specs.Endings.{MayStop}
 use Rattle.soundness.proofs.LeanFollows.{Only}
 use Rattle.tables.specs.Layout.{frame-variables, most-atom-rows, frames-at}
 use Rattle.tables.specs.declared.Expr as Tables
-use Rattle.tables.specs.Decode.{byteAt, exprAt, atomPlace, leftAt, rightAt, kindAt, operandsAt, targetAt, atomCount, programIn}
+use Rattle.tables.specs.declared.Operands.{Operands}
+use Rattle.tables.specs.Decode.{byteAt, exprAt, atomPlace, leftAt, rightAt, kindAt, xAt, yAt, zAt, memberAt, firstAtomAt, operandsAt, targetAt, atomCount, programIn}
 use Rattle.tables.specs.Tables.{Tables, OperandsFit, SideFits, declaredIn}
 use Rattle.tables.specs.Stores.{SameTables, putWord, meaning}
 use Rattle.tables.proofs.Bytes.{same-refl, half-kept}
@@ -38,7 +37,7 @@ use Rattle.run_steps.proofs.Moves.{readable, row-fits}
 use Rattle.lean_heap.specs.declared.Counters.{Counters}
 use Rattle.lean_heap.specs.declared.Stop.{Stop}
 use Rattle.lean_heap.specs.declared.Turn.{Turn}
-use Rattle.lean_heap.specs.Ghosts.{Bare, Stands, Unstuck, Goes, Follows, Does, CanStep, There, cellIn, valueIn, Readable, full, stopOf}
+use Rattle.lean_heap.specs.Ghosts.{Bare, Stands, Unstuck, Follows, Does, CanStep, There, cellIn, valueIn, Readable, full, stopOf}
 use Rattle.lean_heap.proofs.Bares.{bare-tables, bare-class, bare-first, bare-variable, bare-value}
 use Rattle.lean_heap.proofs.Finding.{there-cell}
 
@@ -86,6 +85,21 @@ module _ {w : List ℕ} {c : Counters} {m : Config} (S : Stands w c m) where
   pub row-is : operandsAt w (c .row) ≡ operandsAt (S .ghost) (c .row)
   row-is =
       operands-kept (S .ghost) w most-statements (all-rows most-statements (S .ghost) w (λ i _ l. byte-is i (omega (arith, l)))) (c .row) row-small
+
+  pub x-is : xAt w (c .row) ≡ xAt (S .ghost) (c .row)
+  x-is = ap (λ (r : Operands). r .x) row-is
+
+  pub y-is : yAt w (c .row) ≡ yAt (S .ghost) (c .row)
+  y-is = ap (λ (r : Operands). r .y) row-is
+
+  pub z-is : zAt w (c .row) ≡ zAt (S .ghost) (c .row)
+  z-is = ap (λ (r : Operands). r .z) row-is
+
+  pub member-is : memberAt w (c .row) ≡ memberAt (S .ghost) (c .row)
+  member-is = ap (λ (r : Operands). r .member) row-is
+
+  pub first-is : firstAtomAt w (c .row) ≡ firstAtomAt (S .ghost) (c .row)
+  first-is = ap (λ (r : Operands). r .first) row-is
 
   pub kind-is : {k : ℕ} → kindAt w (c .row) ≡ k → kindAt (S .ghost) (c .row) ≡ k
   kind-is e = sym (kind-same (S .ghost) w ghost-tables (c .row) row-small) ∙ e
@@ -219,6 +233,15 @@ module _ {w : List ℕ} {c : Counters} (R : CanStep w c) where
 
   pub has-base : {b : ℕ} → b ≡ frameAt (c .frames - 1) → b + frame-holder ≤ length w
   has-base e = omega (arith, e, has-frames .1, has-size)
+
+  pub x-small : {x : ℕ} → x ≡ xAt w (c .row) → x < frame-variables
+  x-small e = omega (arith, e, x-is (R .stands), fits (R .stands) .x)
+
+  pub y-small : {y : ℕ} → y ≡ yAt w (c .row) → y < frame-variables
+  y-small e = omega (arith, e, y-is (R .stands), fits (R .stands) .y)
+
+  pub z-small : {z : ℕ} → z ≡ zAt w (c .row) → z < frame-variables
+  z-small e = omega (arith, e, z-is (R .stands), fits (R .stands) .z)
 
   -- a word of the running frame
   pub word-tables : (b x n : ℕ) → b ≡ frameAt (c .frames - 1) → x < frame-variables → SameTables w (putWord w (b + x * 4) n)

@@ -19,7 +19,6 @@ use Rattle.rules.proofs.Tries.{no-ok, bind-ok}
 use Rattle.soundness.proofs.LeanFollows.{Only, locate-only, value-only, takeWalk-only, footprint-only}
 use Rattle.tables.specs.Layout.{frame-variables, most-names, most-atom-rows, values-at, holders-at}
 use Rattle.tables.specs.declared.Expr as Tables
-use Rattle.tables.specs.declared.Operands.{Operands}
 use Rattle.tables.specs.Decode.{byteAt, atomPlace, leftAt, rightAt, relOf, kindAt, operationOf, xAt, yAt, zAt, memberAt, targetAt, firstAtomAt, atomCount, formulaAt, programIn}
 use Rattle.tables.specs.Tables.{SideFits}
 use Rattle.tables.specs.Stores.{SameTables, putWord, meaning}
@@ -42,31 +41,16 @@ use Rattle.lean_heap.specs.declared.Stop as Lean
 use Rattle.lean_heap.specs.declared.Turn.{Turn}
 use Rattle.lean_heap.specs.Ghosts.{Bare, Stands, Unstuck, Follows, Does, CanStep, AtKind, There, cellIn, valueIn, Readable, full, stepped, stopOf, stopIn}
 use Rattle.lean_heap.proofs.Bares.{word-both, ghost-marked, bare-value}
-use Rattle.lean_heap.proofs.Following.{try-ok, ghost-ready, ghost-tables, ghost-size, row-small, fits, row-is, kind-is, target-is, left-is, right-is, atom-kind-is, step-is, on-as, stop-as, variable-is, path-there, read-there, does-on, does-stop, has-frames, word-tables}
+use Rattle.lean_heap.proofs.Following.{try-ok, ghost-ready, ghost-tables, ghost-size, fits, x-is, y-is, z-is, member-is, first-is, kind-is, target-is, left-is, right-is, atom-kind-is, step-is, on-as, stop-as, variable-is, path-there, read-there, does-on, does-stop, has-frames, x-small, y-small, z-small, word-tables}
 use Rattle.lean_steps.specs.Rows.{Passes, Jumps, Condition}
 
--- THE ROW'S OPERANDS are the ghost's
+-- THE GHOST'S STEP
 module _ {w : List ℕ} {c : Counters} {m : Config} (S : Stands w c m) where
   abbrev G : List ℕ
   G = S .ghost
 
   abbrev M : Machine
   M = full c (S .holder) (S .holders)
-
-  x-is : xAt w (c .row) ≡ xAt G (c .row)
-  x-is = ap (λ (r : Operands). r .x) (row-is S)
-
-  y-is : yAt w (c .row) ≡ yAt G (c .row)
-  y-is = ap (λ (r : Operands). r .y) (row-is S)
-
-  z-is : zAt w (c .row) ≡ zAt G (c .row)
-  z-is = ap (λ (r : Operands). r .z) (row-is S)
-
-  member-is : memberAt w (c .row) ≡ memberAt G (c .row)
-  member-is = ap (λ (r : Operands). r .member) (row-is S)
-
-  first-is : firstAtomAt w (c .row) ≡ firstAtomAt G (c .row)
-  first-is = ap (λ (r : Operands). r .first) (row-is S)
 
   -- the step at the row, which is not stuck
   here : (g : Config → Step) → ((n : Config) → States.Represents G M n → step wholeHeap (programIn G) n ≡ g n) → Unstuck (step wholeHeap (programIn w) m) → Unstuck (g m)
@@ -280,15 +264,6 @@ module _ {w : List ℕ} {c : Counters} {a : ℕ} (R : CanStep w c) (K : Conditio
 
 -- VARIABLES
 module _ {w : List ℕ} {c : Counters} (R : CanStep w c) where
-  pub x-small : {x : ℕ} → x ≡ xAt w (c .row) → x < frame-variables
-  x-small e = omega (arith, e, x-is (R .stands), fits (R .stands) .x)
-
-  pub y-small : {y : ℕ} → y ≡ yAt w (c .row) → y < frame-variables
-  y-small e = omega (arith, e, y-is (R .stands), fits (R .stands) .y)
-
-  pub z-small : {z : ℕ} → z ≡ zAt w (c .row) → z < frame-variables
-  z-small e = omega (arith, e, z-is (R .stands), fits (R .stands) .z)
-
   -- the loop's condition stands before its invariant
   pub loop-first : AtKind w c Loop → 1 ≤ firstAtomAt w (c .row)
   loop-first k =

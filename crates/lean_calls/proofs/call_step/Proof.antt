@@ -1,5 +1,5 @@
-use Rattle.lean_heap.proofs.Following.{has-size, has-base}
-use Rattle.lean_calls.proofs.Calling.{y-small, z-small, method-small, frames-full, call-does}
+use Rattle.lean_heap.proofs.Following.{has-size, has-base, y-small, z-small}
+use Rattle.lean_calls.proofs.Calling.{method-small, frames-full, call-does}
 use borrow.Author.Needs.{needs}
 use Rattle.lean_calls.proofs.call_step.Statement.{statement}
 use Rattle.lean_calls.proofs.call_step.Tie as tie

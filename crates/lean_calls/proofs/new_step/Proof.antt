@@ -1,7 +1,7 @@
 use mathlib.Core.Logic.{inl, inr}
 use native.Mathlib.Omega.{arith}
-use Rattle.lean_heap.proofs.Following.{has-size, has-row}
-use Rattle.lean_calls.proofs.Growing.{new-class, new-x, heap-full, made-length, new-does}
+use Rattle.lean_heap.proofs.Following.{has-size, has-row, x-small}
+use Rattle.lean_calls.proofs.Growing.{new-class, heap-full, made-length, new-does}
 use borrow.Author.Needs.{needs}
 use Rattle.lean_calls.proofs.new_step.Statement.{statement}
 use Rattle.lean_calls.proofs.new_step.Tie as tie
@@ -88,7 +88,7 @@ put-word-requires c κs =
     let at-base-of = c .before .before .before .before .before .before .before .before .before .before .base-of in
     let at-x-at = c .before .before .before .before .before .before .before .before .x-at in
     let at-make-object = c .before .before .before .before .make-object in
-    omega (arith, at-base-of .ensures .1, new-x (start .pre .1) (start .pre .0) _ (at-member-at .ensures .0) (at-x-at .ensures .0), made-length (start .pre .1) (start .pre .0) _ (at-member-at .ensures .0) _ (at-field-count-at .ensures .0) (at-if1 .left) (at-if2 .left) (at-make-object .ensures), has-size (start .pre .0))
+    omega (arith, at-base-of .ensures .1, x-small (start .pre .0) (at-x-at .ensures .0), made-length (start .pre .1) (start .pre .0) _ (at-member-at .ensures .0) _ (at-field-count-at .ensures .0) (at-if1 .left) (at-if2 .left) (at-make-object .ensures), has-size (start .pre .0))
 
 cast-grow : tie.Need-cast-grow
 cast-grow c = search needs

@@ -1,7 +1,7 @@
 use Rattle.run_numbers.proofs.Computing.{has-value, has-none}
 use native.Mathlib.Omega.{arith}
-use Rattle.lean_heap.proofs.Following.{has-row, has-base}
-use Rattle.lean_steps.proofs.Doing.{y-small, z-small, compute-does, compute-stops}
+use Rattle.lean_heap.proofs.Following.{has-row, has-base, y-small, z-small}
+use Rattle.lean_steps.proofs.Doing.{compute-does, compute-stops}
 use borrow.Author.Needs.{needs}
 use Rattle.lean_steps.proofs.compute_step.Statement.{statement}
 use Rattle.lean_steps.proofs.compute_step.Tie as tie

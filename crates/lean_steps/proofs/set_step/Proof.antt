@@ -1,6 +1,6 @@
 use native.Mathlib.Omega.{arith}
-use Rattle.lean_heap.proofs.Following.{has-row, has-base}
-use Rattle.lean_steps.proofs.Doing.{x-small, y-small, set-operands, set-does}
+use Rattle.lean_heap.proofs.Following.{has-row, has-base, x-small, y-small}
+use Rattle.lean_steps.proofs.Doing.{set-operands, set-does}
 use borrow.Author.Needs.{needs}
 use Rattle.lean_steps.proofs.set_step.Statement.{statement}
 use Rattle.lean_steps.proofs.set_step.Tie as tie
