@@ -10,7 +10,7 @@ use Rattle.rules.specs.Limits.{heap-fields}
 use Rattle.rules.specs.Base.{Try, ok, no, _>>=_, _>>_, check}
 use Rattle.rules.specs.Answers.{Stop, nullFollowed, overflow}
 use Rattle.rules.specs.Syntax.{Expr, Formula, path}
-use Rattle.rules.specs.Grammar.{Set, Let, If, Else, Loop, Again, Assert, Join, Release, Open, Shut, statementNumber, isComputing}
+use Rattle.rules.specs.Grammar.{Set, Let, If, Else, Loop, Again, Assert, Join, Release, Open, Shut, statementNumber, loop-kind, isComputing}
 use Rattle.rules.specs.Machine.{Config, Location, Step, on, took, step, bind, valueOf, valueAt, value, locate, takeWalk, footprint, compared, computed, advance, withFrame, setStep, assignStep, ifStep, choose, loopStep, assertStep, releaseStep, openStep, shutStep}
 use Rattle.rules.specs.Calls.{wholeHeap}
 use Rattle.rules.specs.declared.Machine.{Machine}
@@ -42,7 +42,7 @@ use Rattle.lean_heap.specs.declared.Turn.{Turn}
 use Rattle.lean_heap.specs.Ghosts.{Bare, Stands, Unstuck, Follows, Does, CanStep, AtKind, There, cellIn, valueIn, Readable, full, stepped, stopOf, stopIn}
 use Rattle.lean_heap.proofs.Bares.{word-both, ghost-marked, bare-value}
 use Rattle.lean_heap.proofs.Following.{try-ok, ghost-ready, ghost-tables, ghost-size, fits, x-is, y-is, z-is, member-is, first-is, kind-is, target-is, left-is, right-is, atom-kind-is, step-is, on-as, stop-as, variable-is, path-there, read-there, does-on, does-stop, has-frames, x-small, y-small, z-small, word-tables}
-use Rattle.lean_steps.specs.Rows.{Passes, Jumps, Condition}
+use Rattle.lean_steps.specs.Rows.{Passes, Jumps, Chooses, conditionOf}
 
 -- THE GHOST'S STEP
 module _ {w : List ℕ} {c : Counters} {m : Config} (S : Stands w c m) where
@@ -141,6 +141,17 @@ jump-does {w} {c} R k i ei q =
     (Stepping.does-as (Stepping.jump-is wholeHeap k′) (Steps.jump-does (ghost-ready S (R .more)) k′ refl)) (S .bare)))
 
 -- CONDITIONS
+
+-- the atom a is the condition of an `if`, or of a `loop`
+abbrev Condition : List ℕ → Counters → ℕ → Type 0
+Condition w c a =
+    (AtKind w c If × (a ≡ firstAtomAt w (c .row))) ⊎ (AtKind w c Loop × (a ≡ firstAtomAt w (c .row) - 1))
+
+condition-is : {w : List ℕ} {c : Counters} {a : ℕ} → Chooses w c → a ≡ conditionOf w (c .row) → Condition w c a
+unfolding conditionOf statementNumber
+condition-is (inl k) e = inl (k, e ∙ rw k)
+condition-is (inr k) e = inr (k, e ∙ rw k)
+
 module _ {w : List ℕ} {c : Counters} (a : ℕ) (more : c .steps < 4294967295) (m : Config) (S : Stands w c m) (U : Unstuck (step wholeHeap (programIn w) m)) where
   -- a condition of the ghost's row, which the step comes to
   record Comes : Type 0 where
@@ -219,7 +230,10 @@ module _ {w : List ℕ} {c : Counters} (a : ℕ) (more : c .steps < 4294967295) 
         let r′ : r ≡ sides .1 = vr ∙ right-read b er eb mr .1 in
         rw (sides .2, sides .3) (ap ok (sym (et ∙ rw (l′, r′, atom-kind-is S a atom-small))))
 
-module _ {w : List ℕ} {c : Counters} {a : ℕ} (R : CanStep w c) (K : Condition w c a) where
+module _ {w : List ℕ} {c : Counters} {a : ℕ} (R : CanStep w c) (chooses : Chooses w c) (ea : a ≡ conditionOf w (c .row)) where
+  K : Condition w c a
+  K = condition-is chooses ea
+
   first : Comes a (R .more) (R .state) (R .stands) (R .unstuck)
   first = comes a (R .more) (R .state) (R .stands) (R .unstuck) K
 
@@ -264,8 +278,9 @@ module _ {w : List ℕ} {c : Counters} {a : ℕ} (R : CanStep w c) (K : Conditio
 
 -- VARIABLES
 module _ {w : List ℕ} {c : Counters} (R : CanStep w c) where
-  -- the loop's condition stands before its invariant
-  pub loop-first : AtKind w c Loop → 1 ≤ firstAtomAt w (c .row)
+  -- a loop's condition stands before its invariant
+  pub loop-first : kindAt w (c .row) ≡ loop-kind → 1 ≤ firstAtomAt w (c .row)
+  unfolding statementNumber
   loop-first k =
       let S = R .stands in omega (arith, first-is S, Steps.loop-atom (ghost-ready S (R .more)) (kind-is S k) .0)
 

@@ -1,11 +1,12 @@
 -- Rows that the lean machine does alike.
-use mathlib.Core.Path.{_≡_}
+use mathlib.Core.Bool.{cond}
 use mathlib.Core.List.{List}
 use mathlib.Core.Logic.{_⊎_}
 use Prim.Native.Nat.{ℕ, _-_}
-use Rattle.rules.specs.Grammar.{Assert, Release, If, Else, Join, Loop, Again, Shut}
+use lib.Dec.{eqb}
+use Rattle.rules.specs.Grammar.{Assert, Release, If, Else, Join, Loop, Again, Shut, loop-kind}
 use Rattle.lean_heap.specs.declared.Counters.{Counters}
-use Rattle.tables.specs.Decode.{firstAtomAt}
+use Rattle.tables.specs.Decode.{kindAt, firstAtomAt}
 use Rattle.lean_heap.specs.Ghosts.{AtKind}
 
 -- "`release`, `assert` and `join` each still a step", and `shut`
@@ -16,7 +17,10 @@ Passes w c = (AtKind w c Assert ⊎ AtKind w c Join) ⊎ (AtKind w c Release ⊎
 abbrev pub Jumps : List ℕ → Counters → Type 0
 Jumps w c = AtKind w c Else ⊎ AtKind w c Again
 
--- the atom a is the condition of the row: of an `if` its atom, of a `loop` the one before its invariant
-abbrev pub Condition : List ℕ → Counters → ℕ → Type 0
-Condition w c a =
-    (AtKind w c If × (a ≡ firstAtomAt w (c .row))) ⊎ (AtKind w c Loop × (a ≡ firstAtomAt w (c .row) - 1))
+-- it goes on by a condition
+abbrev pub Chooses : List ℕ → Counters → Type 0
+Chooses w c = AtKind w c If ⊎ AtKind w c Loop
+
+-- the atom that is the condition of row i: of an `if` its own, of a `loop` the one before its invariant
+unfoldable pub conditionOf : List ℕ → ℕ → ℕ
+conditionOf w i = cond (eqb (kindAt w i) loop-kind) (firstAtomAt w i - 1) (firstAtomAt w i)

@@ -2,17 +2,21 @@
 use lean_heap::Counters;
 use lean_heap::Stop;
 use lean_heap::Turn;
+use rules::Kind;
 use run_heap::Stores;
 use run_numbers::Computed;
 use tables::AtomKind;
 use tables::Layout;
 ghost use mathlib.Core.Path.{_≡_};
+ghost use Prim.Native.Nat.{_≤_, _<_};
 ghost use lib.Dec.{T};
-ghost use Rattle.rules.specs.Grammar.{Set, Let, If, Loop, Open, isComputing};
+ghost use lib.ListN.{length};
+ghost use Rattle.rules.specs.Limits.{work-bytes, most-statements};
+ghost use Rattle.rules.specs.Grammar.{Set, Let, Open, loop-kind, isComputing};
 ghost use Rattle.rules.specs.Machine.{compared};
-ghost use Rattle.tables.specs.Decode.{kindAt, relOf};
+ghost use Rattle.tables.specs.Decode.{kindAt, firstAtomAt, relOf};
 ghost use Rattle.lean_heap.specs.Ghosts.{CanStep, AtKind, Does};
-ghost use Rattle.lean_steps.specs.Rows.{Passes, Jumps, Condition};
+ghost use Rattle.lean_steps.specs.Rows.{Passes, Jumps, Chooses, conditionOf};
 
 // `assert`, `join`, `release` and `shut`: on to the next line.
 pub fn pass_step(work: &[u8], c: Counters) -> Turn
@@ -41,37 +45,33 @@ fn compare(kind: usize, l: u32, r: u32) -> bool
     l != r
 }
 
-// On to the next row where the condition, the atom a, holds, and else to the row's target.
-fn choose(work: &[u8], c: Counters, a: usize) -> Turn
-    requires { ⌜ CanStep (now work) c × Condition (now work) c a ⌝ }
+// The condition: of an `if` its atom, of a `loop` the one before its invariant.
+fn condition_at(work: &[u8], row: usize) -> usize
+    requires { ⌜ ((length (now work) ≡ work-bytes) × (row < most-statements)) × (kindAt (now work) row ≡ loop-kind → 1 ≤ firstAtomAt (now work) row) ⌝ }
+    ensures { λ r. ⌜ r ≡ conditionOf (now (work .entry)) row ⌝ }
+{
+    let a = tables::first_atom_at(work, row);
+    if tables::kind_at(work, row) == Kind::LOOP {
+        return a - 1;
+    }
+    a
+}
+
+// `if` and `loop`: on to the next row where the condition holds, and else to the row's target. One function for both, since the compiler puts
+// a function into its only caller.
+pub fn choose_step(work: &[u8], c: Counters) -> Turn
+    requires { ⌜ CanStep (now work) c × Chooses (now work) c ⌝ }
     ensures { λ r. ⌜ Does (now (work .entry)) c (now (work .entry)) r ⌝ }
 {
     let row = c.row as usize;
     let b = lean_heap::base_of(c);
+    let a = condition_at(work, row);
     let l = lean_heap::value(work, b, tables::left_at(work, a));
     let r = lean_heap::value(work, b, tables::right_at(work, a));
     if compare(tables::atom_kind(work, a), l, r) {
         return Turn::On(lean_heap::next(c, c.row + 1));
     }
     Turn::On(lean_heap::next(c, tables::target_at(work, row) as u32))
-}
-
-// `if`: "a false `if` goes to the line after its `else`".
-pub fn if_step(work: &[u8], c: Counters) -> Turn
-    requires { ⌜ CanStep (now work) c × AtKind (now work) c If ⌝ }
-    ensures { λ r. ⌜ Does (now (work .entry)) c (now (work .entry)) r ⌝ }
-{
-    let row = c.row as usize;
-    choose(work, c, tables::first_atom_at(work, row))
-}
-
-// `loop`: its condition is the atom before its invariant; "if that is false goes on after `again`".
-pub fn loop_step(work: &[u8], c: Counters) -> Turn
-    requires { ⌜ CanStep (now work) c × AtKind (now work) c Loop ⌝ }
-    ensures { λ r. ⌜ Does (now (work .entry)) c (now (work .entry)) r ⌝ }
-{
-    let row = c.row as usize;
-    choose(work, c, tables::first_atom_at(work, row) - 1)
 }
 
 // `let`.

@@ -1,7 +1,7 @@
 // `add` and `sub` on numbers of 32 bits: the exact result, or that it does not fit.
 use rules::Kind;
 ghost use mathlib.Core.Path.{_≡_};
-ghost use Prim.Native.Nat.{_<_};
+ghost use Prim.Native.Nat.{_%_, _<_};
 ghost use Rattle.rules.specs.Syntax.{words, offset};
 ghost use Rattle.rules.specs.Machine.{raised, inRange, computed};
 ghost use Rattle.tables.specs.Decode.{operationOf};
@@ -37,6 +37,16 @@ fn raised(kind: u8, v: u32, w: u32) -> u64
     a + (WORDS - b)
 }
 
+// Its 32 bits. They do not wait for the test of its range.
+fn low_word(kind: u8, v: u32, w: u32) -> u32
+    ensures { λ r. ⌜ r ≡ raised (operationOf kind) v w % words ⌝ }
+{
+    if kind == Kind::ADD {
+        return ((v as u64 + w as u64) % WORDS) as u32;
+    }
+    ((v as u64 + (WORDS - w as u64)) % WORDS) as u32
+}
+
 fn in_range(n: u64) -> bool
     ensures { λ r. ⌜ r ≡ inRange n ⌝ }
 {
@@ -52,7 +62,7 @@ pub fn compute(kind: u8, v: u32, w: u32) -> Computed
 {
     let n = raised(kind, v, w);
     if in_range(n) {
-        return Computed::Value((n % WORDS) as u32);
+        return Computed::Value(low_word(kind, v, w));
     }
     Computed::Overflow
 }
