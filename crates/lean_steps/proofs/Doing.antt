@@ -147,10 +147,10 @@ abbrev Condition : List ℕ → Counters → ℕ → Type 0
 Condition w c a =
     (AtKind w c If × (a ≡ firstAtomAt w (c .row))) ⊎ (AtKind w c Loop × (a ≡ firstAtomAt w (c .row) - 1))
 
-condition-is : {w : List ℕ} {c : Counters} {a : ℕ} → Chooses w c → a ≡ conditionOf w (c .row) → Condition w c a
+condition-is : (w : List ℕ) (c : Counters) (a : ℕ) → Chooses w c → a ≡ conditionOf w (c .row) → Condition w c a
 unfolding conditionOf statementNumber
-condition-is (inl k) e = inl (k, e ∙ rw k)
-condition-is (inr k) e = inr (k, e ∙ rw k)
+condition-is w c a (inl k) e = inl (k, e ∙ rw k)
+condition-is w c a (inr k) e = inr (k, e ∙ rw k)
 
 module _ {w : List ℕ} {c : Counters} (a : ℕ) (more : c .steps < 4294967295) (m : Config) (S : Stands w c m) (U : Unstuck (step wholeHeap (programIn w) m)) where
   -- a condition of the ghost's row, which the step comes to
@@ -232,7 +232,7 @@ module _ {w : List ℕ} {c : Counters} (a : ℕ) (more : c .steps < 4294967295) 
 
 module _ {w : List ℕ} {c : Counters} {a : ℕ} (R : CanStep w c) (chooses : Chooses w c) (ea : a ≡ conditionOf w (c .row)) where
   K : Condition w c a
-  K = condition-is chooses ea
+  K = condition-is w c a chooses ea
 
   first : Comes a (R .more) (R .state) (R .stands) (R .unstuck)
   first = comes a (R .more) (R .state) (R .stands) (R .unstuck) K
