@@ -318,7 +318,7 @@ impl<'p, 'a> Machine<'p, 'a> {
     }
 }
 
-/// What run, or trial, returns and what it leaves in results.
+/// What run, trial or lean returns and what it leaves in results.
 #[derive(Clone, Copy, Debug, PartialEq, Eq)]
 pub struct Run {
     pub number: u32,
