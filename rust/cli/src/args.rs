@@ -130,14 +130,29 @@ fn split(words: impl Iterator<Item = OsString>) -> Result<(Vec<OsString>, Vec<Gi
     Ok((names, given))
 }
 
+/// Why an option that someone may well try does not go with a command.
+fn reason(option: &str, command: &str) -> &'static str {
+    match (option, command) {
+        ("lean", "trial") => {
+            ": a trial tests every permission, and the lean machine keeps none; \
+             `station run --lean` runs a script that check accepts"
+        }
+        ("lean", "trace" | "draw") => {
+            ": who holds what is shown, and the lean machine does not know; leave --lean out"
+        }
+        _ => "",
+    }
+}
+
 /// Are the options those of the command, and its operands as many as it takes?
 fn fits(command: &CommandSpec, given: &[Given], count: usize) -> Result<(), String> {
     for Given { spec, .. } in given {
         if !spec.commands.is_empty() && !spec.commands.contains(&command.name) {
             let (name, with) = (spec.name, spec.commands.join(", "));
             return Err(format!(
-                "--{name} goes with {with}, not with {}",
-                command.name
+                "--{name} goes with {with}, not with {}{}",
+                command.name,
+                reason(name, command.name)
             ));
         }
     }
@@ -234,6 +249,18 @@ mod tests {
                 "--steps goes with run, trial, trace, draw, report, not with check",
             ),
             ("check --json=yes a", "--json takes no value"),
+            ("run --lean=yes a", "--lean takes no value"),
+            ("check --lean a", "--lean goes with run, not with check"),
+            (
+                "trial --lean a",
+                "--lean goes with run, not with trial: a trial tests every permission, and the \
+                 lean machine keeps none; `station run --lean` runs a script that check accepts",
+            ),
+            (
+                "trace --trial --lean a",
+                "--lean goes with run, not with trace: who holds what is shown, and the lean \
+                 machine does not know; leave --lean out",
+            ),
             (
                 "check --color=red a",
                 "--color takes auto, always or never, not \"red\"",

@@ -25,6 +25,9 @@ use std::process::ExitCode;
 fn dispatch(session: &mut Session) -> u8 {
     match session.words.command {
         "check" => commands::check(session),
+        "run" if session.words.has("lean") => {
+            commands::run(session, Asked::Lean(session.words.steps))
+        }
         "run" => commands::run(session, Asked::Run(session.words.steps)),
         "trial" => commands::run(session, Asked::Trial(session.words.steps)),
         "trace" => session.each(looking::trace_one),

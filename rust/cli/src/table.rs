@@ -160,6 +160,12 @@ pub const OPTIONS: &[OptionSpec] = &[
         &["run", "trial", "trace", "draw", "report"],
     ),
     option(
+        "lean",
+        None,
+        "take the lean machine: the same answer, sooner in a long run",
+        &["run"],
+    ),
+    option(
         "cards",
         None,
         "show the cards at the end, or at a stop",

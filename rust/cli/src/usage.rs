@@ -9,7 +9,8 @@ const HEAD: &str = "station: check and run catalogue scripts";
 const FOOT: &str = "\
 FILE may be - for standard input. run, trace and draw refuse what check refuses.
 trial, and --trial, also run a text that check refuses with one of the numbers
-10 to 14, after saying so.
+10 to 14, after saying so. run tests every permission; run --lean says the same
+without these tests, which an accepted script never fails.
 
 Exit status: 0 accepted, bounded or finished; 1 refused, without a bound or
 stopped; 2 wrong use, or a file that can't be read or written (the other files
