@@ -38,7 +38,7 @@ class Library(unittest.TestCase):
             found = said(call, "LibraryNotFound", NUYARDI_EXPLAIN_LIBRARY=nowhere)
             self.assertIn("libnuyardi_explain.so can not be loaded", found, call)
 
-    def test_the_four_calls_need_no_explaining(self):
+    def test_the_calls_need_no_explaining(self):
         found = said("check(b'')", "LibraryNotFound", NUYARDI_EXPLAIN_LIBRARY="/nowhere")
         self.assertEqual(found, "no error\n")
 
