@@ -6,7 +6,7 @@
 use crate::limits;
 use crate::machine::{callee_values, location, returned_values, Location, Object, Run, Values};
 use crate::names::{Action, Atom, Call, Expr, Path, Program, Var, FIRST_LOCAL, RESULT, VARS};
-use crate::number;
+use crate::number::{self, Stop};
 
 /// A frame: its values, and the next statement; one that waits stands at its
 /// `call`.
@@ -25,20 +25,20 @@ enum Step {
     Done,
 }
 
-/// Why a step is not done: 22, 23 or 27.
+/// Why a step is not done: 22, 23 or 27, and no other.
 #[derive(Clone, Copy, Debug, PartialEq, Eq)]
-enum Stop {
+enum LeanStop {
     HeapFull,
     FramesFull,
     Overflow,
 }
 
-impl Stop {
-    fn number(self) -> u32 {
-        match self {
-            Stop::HeapFull => number::HEAP_FULL,
-            Stop::FramesFull => number::FRAMES_FULL,
-            Stop::Overflow => number::OVERFLOW,
+impl From<LeanStop> for Stop {
+    fn from(stop: LeanStop) -> Stop {
+        match stop {
+            LeanStop::HeapFull => Stop::HeapFull,
+            LeanStop::FramesFull => Stop::FramesFull,
+            LeanStop::Overflow => Stop::Overflow,
         }
     }
 }
@@ -90,7 +90,7 @@ impl<'p, 'a> Lean<'p, 'a> {
         }
     }
 
-    fn step(&mut self) -> Result<Step, Stop> {
+    fn step(&mut self) -> Result<Step, LeanStop> {
         let here = self.running.next;
         match self.program.statements[here].action {
             Action::Set(path, y) => {
@@ -101,7 +101,7 @@ impl<'p, 'a> Lean<'p, 'a> {
             Action::Compute(compute) => {
                 let values = &mut self.running.values;
                 let value = compute.operator.value(values[compute.y], values[compute.z]);
-                values[compute.x] = value.ok_or(Stop::Overflow)?;
+                values[compute.x] = value.ok_or(LeanStop::Overflow)?;
             }
             Action::New(x, class) => self.create(x, class)?,
             Action::Open(open) => self.running.values[open.y] = self.heap[self.place(open.path)],
@@ -123,11 +123,11 @@ impl<'p, 'a> Lean<'p, 'a> {
         Ok(Step::To(here + 1))
     }
 
-    fn create(&mut self, x: Var, class: usize) -> Result<(), Stop> {
+    fn create(&mut self, x: Var, class: usize) -> Result<(), LeanStop> {
         let fields = self.program.classes[class].fields.len();
         let first = self.heap.len();
         if self.objects.len() == limits::OBJECTS || first + fields > limits::HEAP_FIELDS {
-            return Err(Stop::HeapFull);
+            return Err(LeanStop::HeapFull);
         }
         self.objects.push(Object {
             first,
@@ -140,9 +140,9 @@ impl<'p, 'a> Lean<'p, 'a> {
     }
 
     /// Nothing is tested but "frames full".
-    fn call(&mut self, call: Call) -> Result<Step, Stop> {
+    fn call(&mut self, call: Call) -> Result<Step, LeanStop> {
         if self.waiting.len() + 1 == limits::FRAMES {
-            return Err(Stop::FramesFull);
+            return Err(LeanStop::FramesFull);
         }
         let called = Frame {
             next: self.program.blocks[call.method].start,
@@ -190,7 +190,7 @@ pub(crate) fn run(program: &Program, allowed: u32) -> Run {
                 steps += 1;
                 break (number::DONE, line);
             }
-            Err(stop) => break (stop.number(), line),
+            Err(stop) => break (Stop::from(stop).number(), line),
         }
         steps += 1;
     };

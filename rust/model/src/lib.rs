@@ -95,7 +95,7 @@ impl<'a> Judged<'a> {
     pub fn check(&self) -> (u32, u32) {
         match self.accepted() {
             Ok(_) => (number::DONE, 0),
-            Err(Refusal { number, line }) => (number, line),
+            Err(refusal) => (refusal.number(), refusal.line),
         }
     }
 
@@ -109,9 +109,9 @@ impl<'a> Judged<'a> {
                 bound: most.steps,
                 frames: most.frames,
             },
-            Err(Refusal { number, line }) => Bounds {
-                number,
-                line,
+            Err(refusal) => Bounds {
+                number: refusal.number(),
+                line: refusal.line,
                 bound: 0,
                 frames: 0,
             },
@@ -173,9 +173,9 @@ fn run_or_refused(
 ) -> Run {
     match program {
         Ok(program) => machine(program, steps),
-        Err(Refusal { number, line }) => Run {
-            number,
-            line,
+        Err(refusal) => Run {
+            number: refusal.number(),
+            line: refusal.line,
             steps: 0,
             values: [0; limits::LOCALS],
         },
