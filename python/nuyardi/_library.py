@@ -88,10 +88,11 @@ def station() -> ctypes.CDLL:
 
 @_once
 def explaining() -> ctypes.CDLL:
-    """libnuyardi_explain.so: explain, trace and draw."""
+    """libnuyardi_explain.so: explain, trace, cards and draw."""
     functions = {
         "nuyardi_explain": [*_AREA, *_AREA],
         "nuyardi_explain_run": [*_AREA, _STEPS, *_AREA],
+        "nuyardi_cards": [*_AREA, _STEPS, *_AREA],
         "nuyardi_draw": [*_AREA, _STEPS, *_AREA],
         "nuyardi_trace": [*_AREA, _STEPS, *_AREA],
     }

@@ -34,7 +34,7 @@ class Library(unittest.TestCase):
 
     def test_explaining_not_there(self):
         nowhere = "/nowhere/libnuyardi_explain.so"
-        for call in ["explain(b'')", "explain_run(b'', 1)", "trace(b'', 1)", "draw(b'', 1)"]:
+        for call in ["explain(b'')", "explain_run(b'', 1)", "trace(b'', 1)", "cards(b'', 1)", "draw(b'', 1)"]:
             found = said(call, "LibraryNotFound", NUYARDI_EXPLAIN_LIBRARY=nowhere)
             self.assertIn("libnuyardi_explain.so can not be loaded", found, call)
 
