@@ -9,6 +9,8 @@ written <- function(call, text, steps = NULL) {
 }
 
 parsed <- function(json, ...) {
+  # What the library says comes first, also that it is not there.
+  force(json)
   if (!requireNamespace("jsonlite", quietly = TRUE)) stop("this needs the package jsonlite")
   jsonlite::fromJSON(json, ...)
 }

@@ -60,6 +60,38 @@ fn cards_of_a_lean_run() {
     assert_eq!(said(&lean, b""), said(&words, b""));
 }
 
+/// The help, the man page and the completions offer it with `run`, and with no other
+/// command.
+#[test]
+fn offered_with_run() {
+    let printed = |words: &[&str]| {
+        let (out, _, status) = said(words, b"");
+        assert_eq!(status, 0, "{words:?}");
+        out
+    };
+    for command in ["run", "trial", "trace", "draw", "check", "report"] {
+        let offered = printed(&["help", command]).contains("--lean");
+        assert_eq!(offered, command == "run", "{command}");
+    }
+    assert!(printed(&["man"]).contains(".B \\-\\-lean\n"));
+    for (shell, start) in [
+        ("bash", "    run) words="),
+        ("zsh", "  run) _arguments"),
+        (
+            "fish",
+            "complete -c station -n '__fish_seen_subcommand_from run' -l lean",
+        ),
+    ] {
+        let completions = printed(&["completions", shell]);
+        let lines: Vec<&str> = completions
+            .lines()
+            .filter(|line| line.contains("lean"))
+            .collect();
+        assert_eq!(lines.len(), 1, "{shell}: {lines:?}");
+        assert!(lines[0].starts_with(start), "{shell}: {lines:?}");
+    }
+}
+
 /// Where it makes no sense the message says why, and what does.
 #[test]
 fn elsewhere() {

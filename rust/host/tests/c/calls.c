@@ -83,14 +83,21 @@ static void lean_calls(const uint8_t *text, size_t len, uint32_t steps)
     expect(all(work, STATION_WORK_BYTES, 0), "lean clears the work area");
     expect(work[STATION_WORK_BYTES] == 0xa5 && results[STATION_RESULTS_BYTES] == 0x5a, "lean stays within the areas");
 
-    garbage();
-    returned = station_lean(text, len, work, STATION_WORK_BYTES + 1, steps, results, STATION_RESULTS_BYTES);
-    expect(returned == STATION_AREA_LENGTH * 65536, "a work area too long for lean");
-    returned = station_lean(text, len, work, STATION_WORK_BYTES, steps, results, STATION_RESULTS_BYTES - 1);
-    expect(returned == STATION_AREA_LENGTH * 65536, "a results area too short for lean");
-    returned = station_lean(text, len, NULL, 0, steps, NULL, 0);
-    expect(returned == STATION_AREA_LENGTH * 65536, "no areas for lean");
-    expect(all(work, sizeof work, 0xa5) && all(results, sizeof results, 0x5a), "number 1 leaves both areas of lean");
+    const size_t lengths[][2] = {
+        {STATION_WORK_BYTES + 1, STATION_RESULTS_BYTES},
+        {STATION_WORK_BYTES - 1, STATION_RESULTS_BYTES},
+        {STATION_WORK_BYTES, STATION_RESULTS_BYTES + 1},
+        {STATION_WORK_BYTES, STATION_RESULTS_BYTES - 1},
+        {STATION_WORK_BYTES, 0},
+        {0, 0},
+    };
+    for (size_t at = 0; at < sizeof lengths / sizeof *lengths; at++) {
+        garbage();
+        returned = station_lean(text, len, lengths[at][0] ? work : NULL, lengths[at][0], steps,
+                                lengths[at][1] ? results : NULL, lengths[at][1]);
+        expect(returned == STATION_AREA_LENGTH * 65536, "an area of wrong length for lean");
+        expect(all(work, sizeof work, 0xa5) && all(results, sizeof results, 0x5a), "number 1 leaves both areas of lean");
+    }
 }
 
 int main(void)
