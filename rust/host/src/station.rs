@@ -108,8 +108,10 @@ impl<W: BorrowMut<[u8; WORK_BYTES]>> Station<W> {
 
     /// What [`Station::run`] answers, always, on a machine that keeps no permissions
     /// and evaluates no assert, requires, ensures, join or invariant: an accepted
-    /// text never fails one, by a theorem. It is for long runs over many objects; in
-    /// a short one nearly all time goes into the check, which both make.
+    /// text never fails one, by a theorem. It is for long runs over many objects. In
+    /// a short one nearly all time goes into the check, which both make each time: a
+    /// text that is run often is then better checked once, and run by
+    /// [`Accepted::run`].
     ///
     /// ```
     /// let mut station = nuyardi::Station::new();
