@@ -48,6 +48,12 @@ size_t nuyardi_explain(const uint8_t *text, size_t length,
 size_t nuyardi_explain_run(const uint8_t *text, size_t length, uint32_t steps,
                            char *out, size_t capacity);
 
+/* The same with the cards that the run made, their fields and who holds them: the
+ * JSON object that `station run --json --cards --steps N -` prints. It has no
+ * `cards` for a text that is not run, nor after more than 20,000,000 steps. */
+size_t nuyardi_cards(const uint8_t *text, size_t length, uint32_t steps,
+                     char *out, size_t capacity);
+
 /* Each step of such a run, at most 100,000, as a JSON object on a line of its own:
  * those that `station trace --json` lists. The last line is the object of
  * nuyardi_explain_run. Each line ends with LF. */
@@ -56,7 +62,7 @@ size_t nuyardi_trace(const uint8_t *text, size_t length, uint32_t steps,
 
 /* The cards after such a run and their links, as an SVG picture: what `station
  * draw` prints. There is none, and 0 is returned, for a text that is not run, and
- * after more than 5,000,000 steps. */
+ * after more than 20,000,000 steps. */
 size_t nuyardi_draw(const uint8_t *text, size_t length, uint32_t steps,
                     char *out, size_t capacity);
 

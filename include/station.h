@@ -1,5 +1,5 @@
-/* Catalogue scripts: check, run, trial and bound, the functions of libnuyardi.a and
- * libnuyardi.so.
+/* Catalogue scripts: check, run, trial, lean and bound, the functions of
+ * libnuyardi.a and libnuyardi.so.
  *
  * Each returns number * 65536 + line (STATION_NUMBER, STATION_LINE). For every
  * content of the text and of the areas, number, line and every byte of the areas
@@ -107,6 +107,18 @@ uint32_t station_trial(const uint8_t *text, size_t text_len,
                        uint8_t *work, size_t work_len,
                        uint32_t steps,
                        uint8_t *results, size_t results_len);
+
+/* What station_run returns, and both areas as station_run leaves them, for every
+ * text, number of steps and area. It checks first, as station_run does; then it
+ * keeps no permissions and evaluates no assert, requires, ensures, join or
+ * invariant, since a text that station_check accepts never fails one (proved). So
+ * a step costs less: for long runs over many objects. station_run tests every
+ * permission all the same, and so may stop at a fault that no proof covers, such
+ * as another thread that writes to an area during the call. */
+uint32_t station_lean(const uint8_t *text, size_t text_len,
+                      uint8_t *work, size_t work_len,
+                      uint32_t steps,
+                      uint8_t *results, size_t results_len);
 
 /* The most that a run of main can take, known before it. The bounds area then
  * holds the steps and the frames (both unsigned), 4 bytes each, low byte first.

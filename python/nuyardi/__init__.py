@@ -9,19 +9,19 @@
     >>> nuyardi.bound(text).steps
     2
 
-`check`, `run`, `trial` and `bound` answer with what the library returns: a refusal is an answer. Only misuse is an exception:
+`check`, `run`, `trial`, `lean` and `bound` answer with what the library returns: a refusal is an answer. Only misuse is an exception:
 a text that is not bytes (TypeError), steps out of range (ValueError), a library that is not there (LibraryNotFound).
 
-`explain`, `trace` and `draw` need a second library, libnuyardi_explain.so, and raise LibraryNotFound without it. The functions of
+`explain`, `trace`, `cards` and `draw` need a second library, libnuyardi_explain.so, and raise LibraryNotFound without it. The functions of
 `nuyardi.calls` work over areas of the caller's own.
 """
 
-from ._explain import Drawing, draw, explain, explain_run, trace
+from ._explain import Drawing, cards, draw, explain, explain_run, trace
 from ._library import LibraryError, LibraryMismatch, LibraryNotFound
 from ._version import __version__
 from .answers import Bounded, Checked, Object, Ran, Value, Variable
 from .numbers import Number
-from .scripts import bound, check, run, trial
+from .scripts import bound, check, lean, run, trial
 
 __all__ = [
     "Bounded",
@@ -37,10 +37,12 @@ __all__ = [
     "Variable",
     "__version__",
     "bound",
+    "cards",
     "check",
     "draw",
     "explain",
     "explain_run",
+    "lean",
     "run",
     "trace",
     "trial",

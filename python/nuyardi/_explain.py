@@ -1,10 +1,10 @@
-"""explain, trace and draw: over a second library, libnuyardi_explain.so, which is not proved."""
+"""explain, trace, cards and draw: over a second library, libnuyardi_explain.so, which is not proved."""
 
 import ctypes
 import json
 from dataclasses import dataclass
 from pathlib import Path
-from typing import Any, Callable, Dict, Iterator, Union
+from typing import Any, Callable, Dict, Iterator, List, Optional, Union
 
 from . import _library
 from .calls import steps_in_range
@@ -47,6 +47,18 @@ def explain_run(text: bytes, steps: int) -> Dict[str, Any]:
     return answer
 
 
+def cards(text: bytes, steps: int) -> List[Dict[str, Any]]:
+    """The cards that such a run made, each a dict with `object`, `class` and `fields`: a field's `name`, `value` (None is null), whether
+    it is a `link` and goes round a `ring`, and who holds it. There are none of a refused text, nor after more than 20,000,000 steps:
+    ValueError."""
+    said, allowed = script_bytes(text), steps_in_range(steps)
+    answer: Dict[str, Any] = json.loads(_answer("nuyardi_cards", said, len(said), allowed))
+    made: Optional[List[Dict[str, Any]]] = answer.get("cards")
+    if made is None:
+        raise ValueError("there are no cards: the text is refused, or its run takes too many steps")
+    return made
+
+
 def trace(text: bytes, steps: int) -> Iterator[Dict[str, Any]]:
     """Each step of such a run, at most 100,000, as a dict: a data frame is made of these as they are. A refused text has none."""
     said, allowed = script_bytes(text), steps_in_range(steps)
@@ -70,7 +82,7 @@ class Drawing:
 
 
 def draw(text: bytes, steps: int) -> Drawing:
-    """The cards as such a run leaves them. There is no picture of a refused text, nor after more than 5,000,000 steps: ValueError."""
+    """The cards as such a run leaves them. There is no picture of a refused text, nor after more than 20,000,000 steps: ValueError."""
     said, allowed = script_bytes(text), steps_in_range(steps)
     svg = written(_library.explaining().nuyardi_draw, said, len(said), allowed)
     if not svg:

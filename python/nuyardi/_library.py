@@ -75,11 +75,12 @@ _AREA = [_BYTES, _LENGTH]
 
 @_once
 def station() -> ctypes.CDLL:
-    """libnuyardi.so: check, run, trial and bound."""
+    """libnuyardi.so: check, run, trial, lean and bound."""
     functions = {
         "station_check": [*_AREA, *_AREA],
         "station_run": [*_AREA, *_AREA, _STEPS, *_AREA],
         "station_trial": [*_AREA, *_AREA, _STEPS, *_AREA],
+        "station_lean": [*_AREA, *_AREA, _STEPS, *_AREA],
         "station_bound": [*_AREA, *_AREA, *_AREA],
     }
     return _loaded("libnuyardi.so", SONAME, "NUYARDI_LIBRARY", functions, ctypes.c_uint32)
@@ -87,10 +88,11 @@ def station() -> ctypes.CDLL:
 
 @_once
 def explaining() -> ctypes.CDLL:
-    """libnuyardi_explain.so: explain, trace and draw."""
+    """libnuyardi_explain.so: explain, trace, cards and draw."""
     functions = {
         "nuyardi_explain": [*_AREA, *_AREA],
         "nuyardi_explain_run": [*_AREA, _STEPS, *_AREA],
+        "nuyardi_cards": [*_AREA, _STEPS, *_AREA],
         "nuyardi_draw": [*_AREA, _STEPS, *_AREA],
         "nuyardi_trace": [*_AREA, _STEPS, *_AREA],
     }

@@ -114,7 +114,7 @@ def checked(returned: int) -> Checked:
 
 
 def ran(returned: int, text: bytes, results: bytes) -> Ran:
-    """What run or trial returned for a text, and left in the results area."""
+    """What run, trial or lean returned for a text, and left in the results area."""
     number, line = _parted(returned)
     steps, *values = struct.unpack(f"<I{VALUES}i", results)
     declared = () if number.refuses else _declared(text)

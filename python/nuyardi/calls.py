@@ -4,7 +4,7 @@ What C can not check is checked here before the call: an area is a writable buff
 memoryview of bytes), and overlaps neither another area nor the text. There are no null pointers: a buffer always has an address. The
 buffers can not be resized or freed during the call. That no other thread writes to them during it is left to the caller.
 
-Most callers want nuyardi.check, nuyardi.run, nuyardi.trial and nuyardi.bound, which need no areas.
+Most callers want nuyardi.check, nuyardi.run, nuyardi.trial, nuyardi.lean and nuyardi.bound, which need no areas.
 """
 
 import ctypes
@@ -102,6 +102,11 @@ def run(text: Text, work: Area, steps: int, results: Area) -> int:
 def trial(text: Text, work: Area, steps: int, results: Area) -> int:
     """station_trial: as run, of a text that check may refuse."""
     return _ran("station_trial", text, work, steps, results)
+
+
+def lean(text: Text, work: Area, steps: int, results: Area) -> int:
+    """station_lean: what run returns and leaves, always, from a machine that tests no permission."""
+    return _ran("station_lean", text, work, steps, results)
 
 
 def bound(text: Text, work: Area, bounds: Area) -> int:

@@ -28,6 +28,7 @@ class Areas(unittest.TestCase):
         yield lambda: calls.check(text, work)
         yield lambda: calls.run(text, work, 1000, results)
         yield lambda: calls.trial(text, work, 1000, results)
+        yield lambda: calls.lean(text, work, 1000, results)
         yield lambda: calls.bound(text, work, bounds)
 
     def refused(self, error, message, which=slice(None), **words):
@@ -39,7 +40,7 @@ class Areas(unittest.TestCase):
     def test_what_is_left(self):
         self.assertEqual(calls.check(WORKED, self.work), 0)
         self.assertEqual(set(self.work), {0})
-        for call in [calls.run, calls.trial]:
+        for call in [calls.run, calls.trial, calls.lean]:
             results = filled(RESULTS_BYTES)
             self.assertEqual(call(WORKED, filled(WORK_BYTES), 1000, results), 19)
             self.assertEqual(struct.unpack("<I12i", results), (8, 1, 7, 7) + (0,) * 9)
@@ -49,7 +50,7 @@ class Areas(unittest.TestCase):
 
     def test_every_kind_of_buffer(self):
         for text in [WORKED, bytearray(WORKED), memoryview(bytearray(WORKED)), (ctypes.c_ubyte * len(WORKED))(*WORKED)]:
-            for call, returned in zip(self.every_call(text=text), [0, 19, 19, 0]):
+            for call, returned in zip(self.every_call(text=text), [0, 19, 19, 19, 0]):
                 self.assertEqual(call(), returned)
         whole = filled(WORK_BYTES + RESULTS_BYTES + len(WORKED))
         view = memoryview(whole)
@@ -64,8 +65,8 @@ class Areas(unittest.TestCase):
     def test_wrong_lengths(self):
         for length in [0, 1, WORK_BYTES - 1, WORK_BYTES + 1]:
             self.refused(ValueError, f"work has {length} bytes, and must have {WORK_BYTES}", work=filled(length))
-        self.refused(ValueError, "results has 51 bytes, and must have 52", slice(1, 3), results=filled(51))
-        self.refused(ValueError, "bounds has 9 bytes, and must have 8", slice(3, 4), bounds=filled(9))
+        self.refused(ValueError, "results has 51 bytes, and must have 52", slice(1, 4), results=filled(51))
+        self.refused(ValueError, "bounds has 9 bytes, and must have 8", slice(4, 5), bounds=filled(9))
 
     def test_no_buffer(self):
         """Null pointers among them."""
@@ -76,17 +77,17 @@ class Areas(unittest.TestCase):
                 call()
         self.refused(TypeError, "work is no writable buffer", work=bytes(WORK_BYTES))
         self.refused(TypeError, "work is no writable buffer", work=memoryview(filled(2 * WORK_BYTES))[::2])
-        self.refused(TypeError, "results is no writable buffer", slice(1, 3), results=bytes(RESULTS_BYTES))
+        self.refused(TypeError, "results is no writable buffer", slice(1, 4), results=bytes(RESULTS_BYTES))
 
     def test_overlapping_areas(self):
         shared = memoryview(filled(WORK_BYTES + TEXT_BYTES))
         work = shared[:WORK_BYTES]
         for at in [WORK_BYTES - 1, WORK_BYTES - RESULTS_BYTES, 0]:
             results, bounds = shared[at : at + RESULTS_BYTES], shared[at : at + BOUNDS_BYTES]
-            self.refused(ValueError, "work and (results|bounds) overlap", slice(1, 4), work=work, results=results, bounds=bounds)
+            self.refused(ValueError, "work and (results|bounds) overlap", slice(1, 5), work=work, results=results, bounds=bounds)
             self.refused(ValueError, "text and work overlap", text=shared[at : at + 100], work=work)
-        self.refused(ValueError, "text and results overlap", slice(1, 3), text=self.results)
-        self.refused(ValueError, "work and results overlap", slice(1, 3), results=memoryview(self.work)[:RESULTS_BYTES])
+        self.refused(ValueError, "text and results overlap", slice(1, 4), text=self.results)
+        self.refused(ValueError, "work and results overlap", slice(1, 4), results=memoryview(self.work)[:RESULTS_BYTES])
         self.assertEqual(set(shared), {0xA5})
         beside = shared[WORK_BYTES : WORK_BYTES + RESULTS_BYTES]
         self.assertEqual(calls.run(WORKED, work, 1000, beside), 19)
@@ -101,8 +102,19 @@ class Areas(unittest.TestCase):
 
     def test_steps(self):
         for steps in [-1, 2**32]:
-            with self.assertRaises(ValueError):
-                calls.run(WORKED, self.work, steps, self.results)
+            for call in [calls.run, calls.trial, calls.lean]:
+                with self.assertRaises(ValueError):
+                    call(WORKED, self.work, steps, self.results)
+
+    def test_lean_leaves_what_run_leaves(self):
+        for text in [WORKED, WORKED.replace(b"requires\tacc\tthis\tn\n", b"requires\n"), b"", b"\xff"]:
+            for steps in [0, 3, 8, 2**32 - 1]:
+                left = []
+                for call in [calls.run, calls.lean]:
+                    work, results = filled(WORK_BYTES), filled(RESULTS_BYTES)
+                    left.append((call(text, work, steps, results), work, results))
+                self.assertEqual(left[0], left[1], (text, steps))
+                self.assertEqual(set(left[1][1]), {0})
 
 
 if __name__ == "__main__":

@@ -50,7 +50,7 @@ class Room(unittest.TestCase):
 class Misuse(unittest.TestCase):
     def test_words(self):
         """These are refused before any library is asked for."""
-        for call in [nuyardi.explain_run, nuyardi.trace, nuyardi.draw]:
+        for call in [nuyardi.explain_run, nuyardi.trace, nuyardi.cards, nuyardi.draw]:
             with self.assertRaises(ValueError):
                 call(WORKED, -1)
             with self.assertRaises(TypeError):
@@ -89,6 +89,16 @@ class Explained(unittest.TestCase):
         """More than the first room holds."""
         steps = list(nuyardi.trace(example("forever.script"), 5000))
         self.assertEqual(steps[-1]["step"], 5000)
+
+    def test_cards(self):
+        made = nuyardi.cards(WORKED, 1000)
+        self.assertEqual([(card["object"], card["class"]) for card in made], [(1, "S")])
+        fields = [(field["name"], field["link"], field["value"], field["holder"]) for field in made[0]["fields"]]
+        self.assertEqual(fields, [("prev", True, None, 0), ("n", False, 7, 0)])
+        self.assertEqual(nuyardi.cards(WORKED, 0), [])
+        self.assertEqual(len(nuyardi.cards(example("catalogue.script"), 1000)), 125)
+        with self.assertRaisesRegex(ValueError, "there are no cards"):
+            nuyardi.cards(example("refused-12.script"), 9)
 
     def test_draw(self):
         drawing = nuyardi.draw(WORKED, 1000)

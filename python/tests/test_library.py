@@ -34,11 +34,11 @@ class Library(unittest.TestCase):
 
     def test_explaining_not_there(self):
         nowhere = "/nowhere/libnuyardi_explain.so"
-        for call in ["explain(b'')", "explain_run(b'', 1)", "trace(b'', 1)", "draw(b'', 1)"]:
+        for call in ["explain(b'')", "explain_run(b'', 1)", "trace(b'', 1)", "cards(b'', 1)", "draw(b'', 1)"]:
             found = said(call, "LibraryNotFound", NUYARDI_EXPLAIN_LIBRARY=nowhere)
             self.assertIn("libnuyardi_explain.so can not be loaded", found, call)
 
-    def test_the_four_calls_need_no_explaining(self):
+    def test_the_calls_need_no_explaining(self):
         found = said("check(b'')", "LibraryNotFound", NUYARDI_EXPLAIN_LIBRARY="/nowhere")
         self.assertEqual(found, "no error\n")
 

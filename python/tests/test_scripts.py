@@ -1,4 +1,4 @@
-"""check, run, trial and bound on scripts with known answers."""
+"""check, run, trial, lean and bound on scripts with known answers."""
 
 import dataclasses
 import doctest
@@ -28,7 +28,7 @@ class Worked(unittest.TestCase):
         self.assertEqual((answer.number, answer.line, answer.accepted), (Number.DONE, 0, True))
 
     def test_ran(self):
-        for call in [nuyardi.run, nuyardi.trial]:
+        for call in [nuyardi.run, nuyardi.trial, nuyardi.lean]:
             ended = call(WORKED, 1000)
             self.assertEqual((ended.number, ended.line, ended.steps), (0, 19, 8))
             self.assertTrue(ended.finished and not ended.refused)
@@ -54,6 +54,7 @@ class Worked(unittest.TestCase):
         self.assertEqual((refused.number, refused.line, refused.accepted), (12, 7, False))
         self.assertEqual(str(refused), "line 7: permission not shown (number 12)")
         ran = nuyardi.run(bare, 1000)
+        self.assertEqual(nuyardi.lean(bare, 1000), ran)
         self.assertEqual((ran.number, ran.line, ran.steps, ran.variables), (12, 7, 0, ()))
         self.assertTrue(ran.refused)
         tried = nuyardi.trial(bare, 1000)
@@ -78,6 +79,17 @@ class Answers(unittest.TestCase):
             self.assertTrue(ended.number.stops and not ended.refused)
             count += 1
         self.assertEqual(count, 7)
+
+    def test_lean_as_run(self):
+        count = 0
+        for path in sorted((ROOT / "examples").iterdir()):
+            text = path.read_bytes()
+            for steps in [0, 5, 3000]:
+                self.assertEqual(nuyardi.lean(text, steps), nuyardi.run(text, steps), path.name)
+            count += 1
+        self.assertGreater(count, 20)
+        ended = nuyardi.lean(example("catalogue.script"), 1000000)
+        self.assertEqual((ended.finished, ended.steps, ended.variable("tours").value), (True, 178205, 100))
 
     def test_no_bound(self):
         bound = nuyardi.bound(FOREVER)
@@ -110,12 +122,13 @@ class Documented(unittest.TestCase):
 class Misuse(unittest.TestCase):
     def test_text_is_bytes(self):
         for text in [WORKED.decode(), bytearray(WORKED), memoryview(WORKED), None, 5]:
-            for call in [nuyardi.check, nuyardi.bound, lambda text: nuyardi.run(text, 1), lambda text: nuyardi.trial(text, 1)]:
+            runs = [nuyardi.run, nuyardi.trial, nuyardi.lean]
+            for call in [nuyardi.check, nuyardi.bound, *(lambda text, run=run: run(text, 1) for run in runs)]:
                 with self.assertRaisesRegex(TypeError, "text is not bytes"):
                     call(text)
 
     def test_steps_in_range(self):
-        for call in [nuyardi.run, nuyardi.trial]:
+        for call in [nuyardi.run, nuyardi.trial, nuyardi.lean]:
             for steps in [-1, 2**32, 10**30]:
                 with self.assertRaisesRegex(ValueError, "steps is"):
                     call(WORKED, steps)

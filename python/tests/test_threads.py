@@ -65,12 +65,12 @@ class Threads(unittest.TestCase):
 
     def test_answers_do_not_mix(self):
         texts = [example(name) for name in SCRIPTS]
-        alone = [(nuyardi.check(text), nuyardi.trial(text, 500), nuyardi.bound(text)) for text in texts]
+        alone = [(nuyardi.check(text), nuyardi.trial(text, 500), nuyardi.bound(text), nuyardi.lean(text, 500)) for text in texts]
         self.assertEqual(alone[0][1].number, Number.DONE)
 
         def answers(at):
             text = texts[at % len(texts)]
-            return nuyardi.check(text), nuyardi.trial(text, 500), nuyardi.bound(text)
+            return nuyardi.check(text), nuyardi.trial(text, 500), nuyardi.bound(text), nuyardi.lean(text, 500)
 
         with ThreadPoolExecutor(8) as pool:
             for at, found in enumerate(pool.map(answers, range(400))):

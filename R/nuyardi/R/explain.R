@@ -1,4 +1,4 @@
-# explain, trace and draw: over a second library, libnuyardi_explain.so.
+# explain, trace and draw: over a second library, libnuyardi_explain.so. The cards are in cards.R.
 
 explain_library <- function() Sys.getenv("NUYARDI_EXPLAIN_LIBRARY", "libnuyardi_explain.so")
 
@@ -8,9 +8,11 @@ written <- function(call, text, steps = NULL) {
   .Call(nuyardi_written, explain_library(), call, bytes, steps)
 }
 
-parsed <- function(json) {
+parsed <- function(json, ...) {
+  # What the library says comes first, also that it is not there.
+  force(json)
   if (!requireNamespace("jsonlite", quietly = TRUE)) stop("this needs the package jsonlite")
-  jsonlite::fromJSON(json)
+  jsonlite::fromJSON(json, ...)
 }
 
 # What a function of the library writes; every answer has some bytes.

@@ -77,6 +77,11 @@ SEXP nuyardi_trial(SEXP text, SEXP steps)
     return ran(station_trial, text, steps);
 }
 
+SEXP nuyardi_lean(SEXP text, SEXP steps)
+{
+    return ran(station_lean, text, steps);
+}
+
 /* Number, line, steps, frames. */
 SEXP nuyardi_bound(SEXP text)
 {

@@ -7,6 +7,7 @@ static const R_CallMethodDef calls[] = {
     {"nuyardi_check", (DL_FUNC)&nuyardi_check, 1},
     {"nuyardi_run", (DL_FUNC)&nuyardi_run, 2},
     {"nuyardi_trial", (DL_FUNC)&nuyardi_trial, 2},
+    {"nuyardi_lean", (DL_FUNC)&nuyardi_lean, 2},
     {"nuyardi_bound", (DL_FUNC)&nuyardi_bound, 1},
     {"nuyardi_written", (DL_FUNC)&nuyardi_written, 4},
     {NULL, NULL, 0},

@@ -17,6 +17,7 @@ void nuyardi_is_text(SEXP text);
 SEXP nuyardi_check(SEXP text);
 SEXP nuyardi_run(SEXP text, SEXP steps);
 SEXP nuyardi_trial(SEXP text, SEXP steps);
+SEXP nuyardi_lean(SEXP text, SEXP steps);
 SEXP nuyardi_bound(SEXP text);
 SEXP nuyardi_written(SEXP library, SEXP function, SEXP text, SEXP steps);
 

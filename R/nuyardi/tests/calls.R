@@ -15,7 +15,7 @@ refuses <- function(expression, words) {
 # The worked script.
 checked <- station_check(worked)
 stopifnot(checked$number == 0L, checked$line == 0L, checked$accepted)
-for (call in list(station_run, station_trial)) {
+for (call in list(station_run, station_trial, station_lean)) {
   ended <- call(worked, 1000)
   stopifnot(ended$number == 0L, ended$line == 19L, ended$steps == 8, ended$finished, !ended$refused,
             identical(ended$variables,
@@ -30,6 +30,10 @@ stopifnot(station_run(worked, 7)$number == 21L, identical(station_check(charToRa
 bare <- sub("requires\tacc\tthis\tn\n", "requires\n", worked, fixed = TRUE)
 stopifnot(station_check(bare)$number == 12L, station_check(bare)$line == 7L, !station_check(bare)$accepted)
 stopifnot(station_run(bare)$refused, nrow(station_run(bare)$variables) == 0L, station_trial(bare)$number == 24L)
+
+# The lean machine answers as run does, also of a text that is refused.
+for (script in list(worked, bare, "", raw(40000)))
+  for (steps in c(0, 3, 1000)) stopifnot(identical(station_lean(script, steps), station_run(script, steps)))
 
 # Values at the ends, null, no bound, texts of any bytes.
 ends <- station_run(text("class S", "main", "var S s", "var int a", "var int b", "let a -2147483648", "let b 2147483647", "end"))
@@ -47,11 +51,11 @@ stopifnot(identical(station_script(path), charToRaw(worked)))
 refuses(station_script(file.path(path, "none")), "there is no file")
 
 # Misuse.
-for (call in list(station_check, station_run, station_trial, station_bound)) {
+for (call in list(station_check, station_run, station_trial, station_lean, station_bound)) {
   for (wrong in list(NULL, 5, NA_character_, c("main", "end"), list(), quote(x)))
     refuses(call(wrong), "text must be a raw vector or one string")
 }
-for (call in list(station_run, station_trial)) {
+for (call in list(station_run, station_trial, station_lean)) {
   for (wrong in list(-1, 0.5, 4294967296, Inf)) refuses(call(worked, wrong), "steps must be a whole number")
   for (wrong in list(NULL, NA, "9", 1:2, TRUE)) refuses(call(worked, wrong), "steps must be one number")
   stopifnot(call(worked, 4294967295)$finished, call(worked, 0)$number == 21L)
@@ -62,6 +66,8 @@ refuses(.Call(nuyardi:::nuyardi_check, NULL), "text is no raw vector")
 refuses(.Call(nuyardi:::nuyardi_check, "main"), "text is no raw vector")
 refuses(.Call(nuyardi:::nuyardi_run, raw(), NULL), "steps is no number")
 refuses(.Call(nuyardi:::nuyardi_run, raw(), -1), "steps must be a whole number")
+refuses(.Call(nuyardi:::nuyardi_lean, "main", 1), "text is no raw vector")
+refuses(.Call(nuyardi:::nuyardi_lean, raw(), 0.5), "steps must be a whole number")
 
 # Words for people.
 stopifnot(identical(capture.output(print(station_check(bare))), "line 7: permission not shown (number 12)"))

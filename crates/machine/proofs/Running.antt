@@ -129,7 +129,7 @@ main-values w n bound number row F [] I C = frame-values w n number row F I
 main-values w n bound number row F (G ∷ Fs) I C = main-values w n _ _ _ G Fs (C .0 .frame) (C .1)
 
 -- THE END
-ends-are :
+pub ends-are :
     {w : List ℕ} {c : Machine} {m : Config} (R : Represents w c m) (e : Answers.Ending) (n : ℕ) →
     ends (programIn w) e n m ≡ record { ending = e; line = lineAt w (c .row); steps = n; values = mainValues w }
 unfolding ends rowAt

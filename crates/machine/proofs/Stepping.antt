@@ -47,89 +47,76 @@ is-computing k (low, high) a b c d e f g i o j p q n =
 pub past-all : (k : ℕ) → IsStatementNumber k → 21 ≤ k → (k ≡ 21 → ⊥) → ((k ≡ 16) ⊎ (k ≡ 22) → ⊥) → (k ≡ 23 → ⊥) → (k ≡ 24 → ⊥) → ⊥
 past-all k (low, high) l o j p q = omega (arith, high, up 24 k (up 23 k (up 22 k (up 21 k l o) (λ z. j (inr z))) p) q)
 
-module _ {w w′ : List ℕ} {c : Machine} {r : Turn} (ready : CanStep w c) (room : Room) where
-  does-as :
-      (f : Config → Step) → ((m : Config) → stepAt room (programIn w) (stmtAt w (c .row)) m ≡ f m) → Does w c w′ r f →
-      Does w c w′ r (step room (programIn w))
+-- WHAT A STEP IS, by the kind of its row
+module _ {w : List ℕ} {c : Machine} (room : Room) where
+  step-as :
+      (f : Config → Step) → ((m : Config) → stepAt room (programIn w) (stmtAt w (c .row)) m ≡ f m) → (m : Config) → Represents w c m →
+      step room (programIn w) m ≡ f m
   unfolding step
-  does-as f e D =
-      record {
-        tables = D .tables;
-        follows = λ m R.
-            subst (Follows w′ c r m) (sym (ap (λ (s : Stmt). stepAt room (programIn w) s m) (statement m R) ∙ e m)) (D .follows m R);
-      }
+  step-as f e m R = ap (λ (s : Stmt). stepAt room (programIn w) s m) (statement m R) ∙ e m
 
-  pub sets : AtKind w c Set → Does w c w′ r (setHere w c) → Does w c w′ r (step room (programIn w))
+  pub set-is : AtKind w c Set → (m : Config) → Represents w c m → step room (programIn w) m ≡ setHere w c m
   unfolding stepAt simpleStep statementNumber
-  sets k = does-as _ (λ m. rw (set-means w (operandsAt w (c .row)) k))
+  set-is k = step-as _ (λ m. rw (set-means w (operandsAt w (c .row)) k))
 
-  pub lets :
-      AtKind w c Let → Does w c w′ r (letHere w c) →
-      Does w c w′ r (step room (programIn w))
+  pub let-is : AtKind w c Let → (m : Config) → Represents w c m → step room (programIn w) m ≡ letHere w c m
   unfolding stepAt simpleStep statementNumber
-  lets k = does-as _ (λ m. rw (let-means w (operandsAt w (c .row)) k))
+  let-is k = step-as _ (λ m. rw (let-means w (operandsAt w (c .row)) k))
 
-  pub news :
-      AtKind w c New → Does w c w′ r (newHere w c room) →
-      Does w c w′ r (step room (programIn w))
+  pub new-is : CanStep w c → AtKind w c New → (m : Config) → Represents w c m → step room (programIn w) m ≡ newHere w c room m
   unfolding stepAt simpleStep statementNumber
-  news k = does-as _ (λ m. rw (new-means w (operandsAt w (c .row)) k, class-get w (memberAt w (c .row)) (fits ready .class k)))
+  new-is ready k =
+      step-as _ (λ m. rw (new-means w (operandsAt w (c .row)) k, class-get w (memberAt w (c .row)) (fits ready .class k)))
 
-  pub calls :
-      AtKind w c Call → Does w c w′ r (callHere w c) →
-      Does w c w′ r (step room (programIn w))
+  pub call-is : CanStep w c → AtKind w c Call → (m : Config) → Represents w c m → step room (programIn w) m ≡ callHere w c m
   unfolding stepAt simpleStep statementNumber
-  calls k = does-as _ (λ m. rw (call-means w (operandsAt w (c .row)) k, method-get w (memberAt w (c .row)) (fits ready .method k)))
+  call-is ready k =
+      step-as _ (λ m. rw (call-means w (operandsAt w (c .row)) k, method-get w (memberAt w (c .row)) (fits ready .method k)))
 
-  pub backs :
-      AtKind w c Return ⊎ AtKind w c End → Does w c w′ r (backHere w c) → Does w c w′ r (step room (programIn w))
+  pub back-is :
+      AtKind w c Return ⊎ AtKind w c End → (m : Config) → Represents w c m → step room (programIn w) m ≡ backHere w c m
   unfolding step stepAt statementNumber sourceOf
-  backs (inl k) D = does-as _ (λ m. rw (return-means w (operandsAt w (c .row)) k, k)) D
-  backs (inr k) D =
-      record {
-        tables = D .tables;
-        follows = λ m R.
-            subst (Follows w′ c r m)
-            (sym (ap (λ (s : Stmt). stepAt room (programIn w) s m) (statement m R) ∙ (rw (end-means w (operandsAt w (c .row)) k, k) (sym (end-returns R)))))
-            (D .follows m R);
-      }
+  back-is (inl k) = step-as _ (λ m. rw (return-means w (operandsAt w (c .row)) k, k))
+  back-is (inr k) = λ m R.
+      ap (λ (s : Stmt). stepAt room (programIn w) s m) (statement m R) ∙ rw (end-means w (operandsAt w (c .row)) k, k) (sym (end-returns R))
 
-  pub asserts :
-      AtKind w c Assert ⊎ AtKind w c Join → Does w c w′ r (assertHere w c) →
-      Does w c w′ r (step room (programIn w))
+  pub assert-is : AtKind w c Assert ⊎ AtKind w c Join → (m : Config) → Represents w c m → step room (programIn w) m ≡ assertHere w c m
   unfolding stepAt simpleStep statementNumber
-  asserts (inl k) = does-as _ (λ m. rw (assert-means w (operandsAt w (c .row)) k))
-  asserts (inr k) = does-as _ (λ m. rw (join-means w (operandsAt w (c .row)) k))
+  assert-is (inl k) = step-as _ (λ m. rw (assert-means w (operandsAt w (c .row)) k))
+  assert-is (inr k) = step-as _ (λ m. rw (join-means w (operandsAt w (c .row)) k))
 
-  pub releases : AtKind w c Release → Does w c w′ r (releaseHere w c) → Does w c w′ r (step room (programIn w))
+  pub release-is : AtKind w c Release → (m : Config) → Represents w c m → step room (programIn w) m ≡ releaseHere w c m
   unfolding stepAt simpleStep statementNumber
-  releases k = does-as _ (λ m. rw (release-means w (operandsAt w (c .row)) k))
+  release-is k = step-as _ (λ m. rw (release-means w (operandsAt w (c .row)) k))
 
-  pub ifs :
-      AtKind w c If →
-      Does w c w′ r
-      (ifHere w c) →
-      Does w c w′ r (step room (programIn w))
+  pub if-is : AtKind w c If → (m : Config) → Represents w c m → step room (programIn w) m ≡ ifHere w c m
   unfolding stepAt programIn statementNumber
-  ifs k = does-as _ (λ m. rw (if-means w (operandsAt w (c .row)) k))
+  if-is k = step-as _ (λ m. rw (if-means w (operandsAt w (c .row)) k))
 
-  pub loops : AtKind w c Loop → Does w c w′ r (loopHere w c) → Does w c w′ r (step room (programIn w))
+  pub loop-is : AtKind w c Loop → (m : Config) → Represents w c m → step room (programIn w) m ≡ loopHere w c m
   unfolding stepAt programIn statementNumber
-  loops k = does-as _ (λ m. rw (loop-means w (operandsAt w (c .row)) k))
+  loop-is k = step-as _ (λ m. rw (loop-means w (operandsAt w (c .row)) k))
 
-  pub jumps : Jumps w c → Does w c w′ r (jumpHere w c) → Does w c w′ r (step room (programIn w))
+  pub jump-is : Jumps w c → (m : Config) → Represents w c m → step room (programIn w) m ≡ jumpHere w c m
   unfolding stepAt programIn statementNumber
-  jumps (inl k) = does-as _ (λ m. rw (else-means w (operandsAt w (c .row)) k, k))
-  jumps (inr k) = does-as _ (λ m. rw (again-means w (operandsAt w (c .row)) k, k))
+  jump-is (inl k) = step-as _ (λ m. rw (else-means w (operandsAt w (c .row)) k, k))
+  jump-is (inr k) = step-as _ (λ m. rw (again-means w (operandsAt w (c .row)) k, k))
 
-  pub opens : AtKind w c Open → Does w c w′ r (openHere w c) → Does w c w′ r (step room (programIn w))
+  pub open-is : AtKind w c Open → (m : Config) → Represents w c m → step room (programIn w) m ≡ openHere w c m
   unfolding stepAt simpleStep statementNumber
-  opens k = does-as _ (λ m. rw (open-means w (operandsAt w (c .row)) k))
+  open-is k = step-as _ (λ m. rw (open-means w (operandsAt w (c .row)) k))
 
-  pub shuts : AtKind w c Shut → Does w c w′ r (shutHere w c) → Does w c w′ r (step room (programIn w))
+  pub shut-is : AtKind w c Shut → (m : Config) → Represents w c m → step room (programIn w) m ≡ shutHere w c m
   unfolding stepAt simpleStep statementNumber
-  shuts k = does-as _ (λ m. rw (shut-means w (operandsAt w (c .row)) k))
+  shut-is k = step-as _ (λ m. rw (shut-means w (operandsAt w (c .row)) k))
 
-  pub computes : T (isComputing (kindAt w (c .row))) → Does w c w′ r (computeHere w c) → Does w c w′ r (step room (programIn w))
+  pub compute-is :
+      T (isComputing (kindAt w (c .row))) → (m : Config) → Represents w c m → step room (programIn w) m ≡ computeHere w c m
   unfolding stepAt simpleStep statementNumber
-  computes t = does-as _ (λ m. rw (compute-means w (operandsAt w (c .row)) t))
+  compute-is t = step-as _ (λ m. rw (compute-means w (operandsAt w (c .row)) t))
+
+-- what the code does at a row is the step there
+pub does-as :
+    {w w′ : List ℕ} {c : Machine} {r : Turn} {f g : Config → Step} → ((m : Config) → Represents w c m → g m ≡ f m) → Does w c w′ r f →
+    Does w c w′ r g
+does-as {w} {w′} {c} {r} e D = record { tables = D .tables; follows = λ m R. subst (Follows w′ c r m) (sym (e m R)) (D .follows m R) }

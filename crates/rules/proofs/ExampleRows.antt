@@ -8,7 +8,7 @@ use lib.ListN.{length, replicate}
 use Rattle.rules.specs.Base.{bytes, update, eqName}
 use Rattle.rules.specs.Text.{tab, line-feed}
 use Rattle.rules.specs.Bounds.{total}
-use Rattle.rules.specs.Calls.{Result, Bounds, checkText, runText, trialText, boundText}
+use Rattle.rules.specs.Calls.{Result, Bounds, checkText, runText, trialText, leanText, boundText}
 use Rattle.rules.specs.Areas.{Checked, Ran, Bounded, checkCall, runCall, boundCall}
 use Rattle.rules.specs.Printed.{printed}
 
@@ -64,6 +64,7 @@ pub data Call : Type 0 where
   check : Call
   run : ℕ → Call
   trial : ℕ → Call
+  lean : ℕ → Call
   bound : Call
   print : Call
   checkIn : ℕ → Call
@@ -86,6 +87,7 @@ unfoldable pub answer : List ℕ → Call → List ℕ
 answer t check = let v : ℕ × ℕ = checkText t in v .0 ∷ v .1 ∷ []
 answer t (run k) = shown (runText t k)
 answer t (trial k) = shown (trialText t k)
+answer t (lean k) = shown (leanText t k)
 answer t bound = let b : Bounds = boundText t in b .number ∷ b .line ∷ b .bound ∷ b .frames ∷ []
 answer t print = printed t
 answer t (checkIn w) = let c : Checked = checkCall t (lent w) in c .returned ∷ summed (c .work)

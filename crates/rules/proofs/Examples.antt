@@ -6,7 +6,7 @@ use Rattle.rules.specs.Base.{all}
 use Rattle.rules.specs.Calls.{computing}
 use Rattle.rules.specs.Printed as Printed
 use Rattle.rules.proofs.ExampleRows as ExampleRows
-use Rattle.rules.proofs.ExampleRows.{Row, check, run, trial, bound, print, row, three, right, text, withLine, times, oneLine, script, numbers, method}
+use Rattle.rules.proofs.ExampleRows.{Row, check, run, trial, lean, bound, print, row, three, right, text, withLine, times, oneLine, script, numbers, method}
 use Rattle.rules.proofs.ExampleTexts as ExampleTexts
 use Rattle.rules.proofs.ExampleTexts.{worked, alias, acrossCall, twice, oldValue, twoFields, branching, innerJoin, throughPath, overTwoPaths, oneName, oneOnBothSides, counting, walk, leaving, unframed, deep, lower, rings, tens, walked, cards, linked, shutBoth, ring, ofChain, ofTwo, withCard}
 
@@ -180,6 +180,18 @@ rows =
     -- the walk goes to the last card, and two chains share none
     row (linked ("release read t prev" ∷ "assert chain s prev" ∷ [])) (trial 1000) (24 ∷ 12 ∷ 4 ∷ three 1 2 0) ∷
     row (linked ("assert chain t prev chain s prev" ∷ [])) (trial 1000) (24 ∷ 11 ∷ 3 ∷ three 1 2 0) ∷
+    -- W10: it "shall return the number, line, steps and values of run on every accepted text, with `release`, `assert` and `join` each
+    -- still a step"
+    row worked (lean 1000) (0 ∷ 19 ∷ 8 ∷ three 1 7 7) ∷
+    row worked (lean 7) (21 ∷ 19 ∷ 7 ∷ three 1 7 7) ∷
+    row (numbers ("let a 1" ∷ "if eq a 1" ∷ "let b 2" ∷ "else" ∷ "let b 3" ∷ "join" ∷ [])) (lean 9) (0 ∷ 11 ∷ 6 ∷ three 1 2 0) ∷
+    row (walk "loop ne a 3 acc s n") (lean 1000) (0 ∷ 18 ∷ 24 ∷ three 1 3 1) ∷
+    row walked (lean 1000) (0 ∷ 36 ∷ 33 ∷ 2 ∷ 2 ∷ 3 ∷ 7 ∷ 7 ∷ 0 ∷ 0 ∷ 0 ∷ 0 ∷ 0 ∷ 0 ∷ 0 ∷ []) ∷
+    row (counting "let b 2147483647" "let c 1" "add b b c") (lean 9) (27 ∷ 7 ∷ 2 ∷ three 0 2147483647 1) ∷
+    row (deep "requires ne this null") (lean 1000) (23 ∷ 9 ∷ 190 ∷ three 1 0 0) ∷
+    -- "It checks first, as run does, and gives a refused text the same number, line and results."
+    row (withLine 5 "requires" worked) (lean 1000) (12 ∷ 7 ∷ 0 ∷ three 0 0 0) ∷
+    row unframed (lean 1000) (10 ∷ 6 ∷ 0 ∷ three 0 0 0) ∷
     []
 
 pub rows-right : T (all right rows)

@@ -1,5 +1,5 @@
 -- Demand 3 of document 01 over texts: one claim about the whole run, and its two halves; the same of run without check before it;
--- what run and trial have in common. The crate `soundness` proves them.
+-- what run and trial have in common, and run and lean. The crate `soundness` proves them.
 use mathlib.Core.Path.{_≡_}
 use mathlib.Core.List.{List}
 use mathlib.Core.Logic.{_⊎_}
@@ -7,7 +7,7 @@ use Prim.Native.Nat.{ℕ, _≤_}
 use Rattle.rules.specs.Answers.{accepted}
 use Rattle.rules.specs.Items.{Item}
 use Rattle.rules.specs.Reading.{readText, program}
-use Rattle.rules.specs.Calls.{Result, checkText, runText, trialText, wholeHeap, outcomeResult, refusedResult}
+use Rattle.rules.specs.Calls.{Result, checkText, runText, trialText, leanText, wholeHeap, outcomeResult, refusedResult}
 use Rattle.rules.specs.Runs.{Run, FrameKept, HalvesKept, ChainsEnd, ChainsHanded, outcome}
 
 -- "run .. returns number 0, 21, 22 or 23"; of 27, "an accepted script may end so as well"; "What an accepted script can't stop on now
@@ -69,3 +69,10 @@ EveryRun = (t : List ℕ) (k : ℕ) → RunRefuses t k ⊎ Claim t k
 -- "An accepted text gets the same from both."
 abbrev pub SameFromBoth : Type 0
 SameFromBoth = (t : List ℕ) → checkText t .0 ≡ 0 → (k : ℕ) → runText t k ≡ trialText t k
+
+-- LEAN
+
+-- W10: it "shall return the number, line, steps and values of run on every accepted text", and "gives a refused text the same number, line
+-- and results": of every text and every number of allowed steps
+abbrev pub LeanIsRun : Type 0
+LeanIsRun = (t : List ℕ) (k : ℕ) → leanText t k ≡ runText t k

@@ -2,8 +2,8 @@
 use rules::Kind;
 ghost use mathlib.Core.Path.{_≡_};
 ghost use Prim.Native.Nat.{_<_};
-ghost use Rattle.rules.specs.Syntax.{words, offset};
-ghost use Rattle.rules.specs.Machine.{raised, inRange, computed};
+ghost use Rattle.rules.specs.Syntax.{sum, difference, words, offset};
+ghost use Rattle.rules.specs.Machine.{inRange, computed};
 ghost use Rattle.tables.specs.Decode.{operationOf};
 ghost use Rattle.run_numbers.specs.Computing.{computedIs};
 
@@ -25,18 +25,6 @@ fn offset(v: u32) -> u64
     (v as u64 + SIGN) % WORDS
 }
 
-// The sum or difference, by the kind of line, plus 2^32.
-fn raised(kind: u8, v: u32, w: u32) -> u64
-    ensures { λ r. ⌜ r ≡ raised (operationOf kind) v w ⌝ }
-{
-    let a = offset(v);
-    let b = offset(w);
-    if kind == Kind::ADD {
-        return a + b;
-    }
-    a + (WORDS - b)
-}
-
 fn in_range(n: u64) -> bool
     ensures { λ r. ⌜ r ≡ inRange n ⌝ }
 {
@@ -46,13 +34,31 @@ fn in_range(n: u64) -> bool
     n < WORDS + SIGN
 }
 
+// The 32 bits of a sum do not wait for the test of its range, which goes by the sum plus 2^32.
+fn add(v: u32, w: u32) -> Computed
+    ensures { λ r. ⌜ computedIs r ≡ computed sum v w ⌝ }
+{
+    if in_range(offset(v) + offset(w)) {
+        return Computed::Value(((v as u64 + w as u64) % WORDS) as u32);
+    }
+    Computed::Overflow
+}
+
+fn subtract(v: u32, w: u32) -> Computed
+    ensures { λ r. ⌜ computedIs r ≡ computed difference v w ⌝ }
+{
+    if in_range(offset(v) + (WORDS - offset(w))) {
+        return Computed::Value(((v as u64 + (WORDS - w as u64)) % WORDS) as u32);
+    }
+    Computed::Overflow
+}
+
 // "A result beyond 32 bits signed stops the run".
 pub fn compute(kind: u8, v: u32, w: u32) -> Computed
     ensures { λ r. ⌜ computedIs r ≡ computed (operationOf kind) v w ⌝ }
 {
-    let n = raised(kind, v, w);
-    if in_range(n) {
-        return Computed::Value((n % WORDS) as u32);
+    if kind == Kind::ADD {
+        return add(v, w);
     }
-    Computed::Overflow
+    subtract(v, w)
 }

@@ -103,10 +103,10 @@ module _ {w : List ℕ} {c : Machine} (ready : CanStep w c) where
   result-tables {u} v =
       only-tables (only-word frames-at (frames-at + 8192) u (resultAt c) v (omega arith) (omega (arith, frames-fit ready .1))) (omega arith)
 
-  -- the code reads the old result and x, and puts the second as the result
+  -- the code reads x, and puts it as the result
   module _
-      (v : View) (ev : v ≡ viewOf c) (old x n : ℕ) {w₁ : List ℕ} (eo : old ≡ variableAt w (v .base) result-variable) (lo : old < 4294967296)
-      (ex : x ≡ sourceOf w (c .row)) (en : n ≡ variableAt w (v .base) x) (ln : n < 4294967296) (e₁ : w₁ ≡ putWord w (v .base + 56) n) where
+      (v : View) (ev : v ≡ viewOf c) (x n : ℕ) {w₁ : List ℕ} (ex : x ≡ sourceOf w (c .row)) (en : n ≡ variableAt w (v .base) x)
+      (ln : n < 4294967296) (e₁ : w₁ ≡ putWord w (v .base + 56) n) where
     put-is : w₁ ≡ putWord w (resultAt c) n
     put-is = e₁ ∙ rw ev
 
@@ -129,12 +129,9 @@ module _ {w : List ℕ} {c : Machine} (ready : CanStep w c) where
         en ∙ (rw (ev, ex) (sym (running R .values (sourceOf w (c .row)) source-fits))) in
         rw (p, e) refl
 
-    old-is : (m : Config) → Represents w c m → old ≡ valueOf (m .frame) result-variable
-    old-is m R = eo ∙ rw ev (sym (running R .values result-variable (omega arith)))
-
     -- the code's answer r is that of `end`
     module _ {w₂ : List ℕ} {t : Turn} (D : Does w₁ c w₂ t (endHere w₁)) where
-      followed : (m : Config) → Represents w c m → (r : Turn) → t ≡ r → Follows w₂ c r (resulting n m) (backHere w c m)
+      pub followed : (m : Config) → Represents w c m → (r : Turn) → t ≡ r → Follows w₂ c r (resulting n m) (backHere w c m)
       followed m R r e =
           subst (Follows w₂ c r (resulting n m)) (step-is m R)
           (subst (λ (u : Turn). Follows w₂ c u (resulting n m) (endHere w₁ (resulting n m))) e (D .follows _ (represented m R)))
@@ -149,7 +146,12 @@ module _ {w : List ℕ} {c : Machine} (ready : CanStep w c) where
       size-after = omega (arith, same-after .size, size ready)
 
       -- the old result is put back
-      module _ {w₃ : List ℕ} (e₃ : w₃ ≡ putWord w₂ (v .base + 56) old) where
+      module _
+          (old : ℕ) {w₃ : List ℕ} (eo : old ≡ variableAt w (v .base) result-variable) (lo : old < 4294967296)
+          (e₃ : w₃ ≡ putWord w₂ (v .base + 56) old) where
+        old-is : (m : Config) → Represents w c m → old ≡ valueOf (m .frame) result-variable
+        old-is m R = eo ∙ rw ev (sym (running R .values result-variable (omega arith)))
+
         put-back-is : w₃ ≡ putWord w₂ (resultAt c) old
         put-back-is = e₃ ∙ rw ev
 

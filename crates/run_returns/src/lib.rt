@@ -66,7 +66,7 @@ fn end_step(work: &mut [u8], c: Machine) -> Turn
 }
 
 // The variable that is the result: of a `return` its x, of an `end` the result as it is.
-fn source(work: &[u8], row: usize) -> usize
+pub fn source(work: &[u8], row: usize) -> usize
     requires { ⌜ (length (now work) ≡ work-bytes) × (row < most-statements) ⌝ }
     ensures { λ r. ⌜ r ≡ sourceOf (now (work .entry)) row ⌝ }
 {

@@ -31,4 +31,6 @@ pub mod RequiresAdded
 pub mod RowsNamed
 pub mod ReachedFormed
 pub mod RefusedAtALine
+pub mod LeanFollows
+pub mod LeanRuns
 pub mod Demand3

@@ -1,5 +1,5 @@
--- Demand 3 of document 01, proved for what `station::check`, `station::run` and `station::trial` return: by their contracts they
--- return, and leave in the areas, what `checkCall`, `runCall` and `trialCall` say. The statements are those of specs/Demand.
+-- Demand 3 of document 01, proved for what `station::check`, `station::run`, `station::trial` and `station::lean` return: by their contracts they
+-- return, and leave in the areas, what `checkCall`, `runCall`, `trialCall` and `leanCall` say. The statements are those of specs/Demand.
 use mathlib.Core.Path.{_≡_, sym, ap, subst, _∙_}
 use mathlib.Core.List.{List}
 use mathlib.Core.Logic.{inl, inr, ⊎-elim}
@@ -11,9 +11,10 @@ use Rattle.rules.specs.Limits.{work-bytes, results-bytes}
 use Rattle.rules.specs.Calls.{Result, checkText, refusedResult, runText, trialText}
 use Rattle.rules.specs.Areas.{packed, cleared, wordBytes, wordsBytes, resultBytes, checkCall, ranCall}
 use Rattle.rules.specs.Demand.{NotStuck, Claim, IsRefusal, RunRefuses}
+use Rattle.soundness.proofs.LeanRuns.{lean-is-run}
 use Rattle.soundness.proofs.Demand3.{same-from-both, calls-keep-frame, one-claim, every-run}
 use Rattle.printer.proofs.Called.{number-packed}
-use Rattle.station.specs.Demand.{Lent, runOver, trialOver, Returns, ReturnsClaim, OneClaimReturned, ReturnsRefusal, RunReturnsNeverStuck, EveryRunReturned, SameReturned, TrialReturned}
+use Rattle.station.specs.Demand.{Lent, runOver, trialOver, Returns, ReturnsClaim, OneClaimReturned, ReturnsRefusal, RunReturnsNeverStuck, EveryRunReturned, SameReturned, TrialReturned, LeanReturned}
 use Rattle.station.proofs.Texts.{run-fits}
 
 -- WHAT THE CALLS RETURN ON AREAS OF THE RIGHT LENGTH
@@ -92,3 +93,7 @@ same-returned t area n e w k b =
 
 pub trial-returned : TrialReturned
 trial-returned t items e l = record { frame = calls-keep-frame t items e (l .steps); returns = trial-returns t l }
+
+-- LEAN
+pub lean-returned : LeanReturned
+lean-returned t work steps results = ap (λ (r : Result). ranCall r work results) (lean-is-run t steps)

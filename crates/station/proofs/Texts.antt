@@ -13,12 +13,15 @@ use Rattle.rules.specs.Items.{Item}
 use Rattle.rules.specs.Reading.{readText, program}
 use Rattle.rules.specs.Rules.{checkProgram}
 use Rattle.rules.specs.Machine.{runProgram}
-use Rattle.rules.specs.Calls.{Result, checkItems, verdictNumbers, checkText, wholeHeap, outcomeResult, refusedResult, runItems, trialText, runText}
+use Rattle.rules.specs.Lean as Lean
+use Rattle.rules.specs.Calls.{Result, checkItems, checkedItems, verdictNumbers, checkText, wholeHeap, outcomeResult, refusedResult, runItems, trialText, runText, leanText}
 use Rattle.rules.specs.Areas.{cleared, wordBytes, wordsBytes, resultBytes}
 use Rattle.rules.specs.Demand.{IsRefusal}
-use Rattle.rules.proofs.Tries.{refusal-number, refusal-not-zero}
+use Rattle.rules.proofs.Lists.{decide-eq}
+use Rattle.rules.proofs.Tries.{refusal-number, refusal-not-zero, accepted-inj}
 use Rattle.soundness.proofs.ReadRefuses.{read-refused}
-use Rattle.soundness.proofs.Demand3.{same-from-both, check-decides}
+use Rattle.soundness.proofs.LeanRuns.{accepted-lean, checked-accepted, lean-is-run}
+use Rattle.soundness.proofs.Demand3.{check-accepted, same-from-both, check-decides}
 use Rattle.tables.specs.Decode.{programIn}
 use Rattle.reader.specs.declared.Refusal as Reasons
 use Rattle.reader.specs.declared.Reading.{Reading}
@@ -29,9 +32,12 @@ use Rattle.checker.specs.Checked as Checker
 use Rattle.checker.specs.Checked.{verdictOf}
 use Rattle.machine.specs.declared.Ran.{Ran}
 use Rattle.machine.specs.Runs.{number, mainValues, RanAs}
+use Rattle.lean_machine.specs.declared.Ran as Declared
+use Rattle.lean_machine.specs.Runs as Leans
+use Rattle.lean_machine.specs.Runs.{Accepted}
 use Rattle.printer.proofs.Calls.{fits}
 use Rattle.station.specs.declared.Reply.{Reply}
-use Rattle.station.specs.Station.{numbersIn, runNumbers, Found, unlessRefused}
+use Rattle.station.specs.Station.{numbersIn, runNumbers, Found, unlessRefused, leanRun}
 
 -- THE READER'S ANSWER BY ITS CASES
 module _ (t w : List ℕ) (r : Reading) (x : ReadingIs t w r) where
@@ -162,6 +168,37 @@ module _ {w w′ : List ℕ} {k : ℕ} {r : Ran} (x : RanAs wholeHeap w k w′ r
   unfolding outcomeResult resultBytes
   ran-bytes = sym (ap (λ o. resultBytes (outcomeResult o)) (x .outcome))
 
+-- LEAN
+
+-- the tables of an accepted text
+pub tables-accepted : {t w : List ℕ} {f : Reply} → Found (checkText t) t f w → f .number ≡ 0 → Accepted (programIn w)
+unfolding checkedItems then
+tables-accepted {t} F z =
+    let x = F .taken z .1 in
+    let (items, r, c) = check-accepted t (sym (ap (λ (p : ℕ × ℕ). p .0) (F .numbers)) ∙ z) in
+    let i : items ≡ x .items = accepted-inj (sym r ∙ x .read) in
+    rw (x .program, ← i) (checked-accepted t items (rw (r, c) refl))
+
+pub found-lean : {t w : List ℕ} {f : Reply} (k : ℕ) → Found (checkText t) t f w → unlessRefused f (leanRun (programIn w) k) ≡ leanText t k
+found-lean {t} {w} {f} k F =
+    ⊎-elim
+    (λ (z : f .number ≡ 0).
+    let (W, c) = tables-accepted F z in
+    ap (unlessRefused f) (ap outcomeResult (accepted-lean (programIn w) W c wholeHeap k)))
+    (λ (n : f .number ≡ 0 → ⊥). found-refusal f _ n ∙ sym (found-refusal f _ n))
+    (decide-eq (f .number) 0)
+    ∙ (found-run k F ∙ sym (lean-is-run t k))
+
+-- what the lean machine ends with
+module _ {w w′ : List ℕ} {k : ℕ} {r : Declared.Ran} (x : Leans.RanAs w k w′ r) where
+  pub lean-numbers : {n : ℕ} → n ≡ Leans.number (r .ending) → (n, r .line) ≡ runNumbers (leanRun (programIn w) k)
+  unfolding outcomeResult Leans.number Lean.outcomeOf
+  lean-numbers i = ap (λ (m : ℕ). (m, r .line)) i ∙ sym (ap (λ o. runNumbers (outcomeResult o)) (x .outcome))
+
+  pub lean-bytes : wordsBytes (r .steps ∷ mainValues w′) ≡ resultBytes (leanRun (programIn w) k)
+  unfolding outcomeResult resultBytes Lean.outcomeOf
+  lean-bytes = sym (ap (λ o. resultBytes (outcomeResult o)) (x .outcome))
+
 -- WHAT IS RETURNED FITS
 abbrev pub NumbersFit : ℕ × ℕ → Type 0
 NumbersFit v = (v .0 < 65536) × (v .1 < 65536)
@@ -211,3 +248,6 @@ run-fits t k h =
     ⊎-elim (λ r. fits-as (ap runNumbers (r .answer)) (check-fits t))
     (λ e. fits-as (ap runNumbers (same-from-both t (ap (λ (p : ℕ × ℕ). p .0) e) k)) (trial-fits t k h))
     (check-decides t k)
+
+pub lean-fits : (t : List ℕ) (k : ℕ) → k < 4294967296 → NumbersFit (runNumbers (leanText t k))
+lean-fits t k h = fits-as (ap runNumbers (lean-is-run t k)) (run-fits t k h)

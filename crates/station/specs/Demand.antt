@@ -9,7 +9,7 @@ use Rattle.rules.specs.Answers.{accepted}
 use Rattle.rules.specs.Items.{Item}
 use Rattle.rules.specs.Reading.{readText}
 use Rattle.rules.specs.Calls.{Result, runText, trialText}
-use Rattle.rules.specs.Areas.{packed, cleared, resultBytes, checkCall, Ran, runCall, trialCall, numberIn}
+use Rattle.rules.specs.Areas.{packed, cleared, resultBytes, checkCall, Ran, runCall, trialCall, leanCall, numberIn}
 use Rattle.rules.specs.Syntax.{words}
 use Rattle.rules.specs.Demand.{NotStuck, KeepsFrame, Claim, IsRefusal}
 
@@ -77,3 +77,10 @@ pub record TrialKeepsFrame (t : List ℕ) (items : List Item) (l : Lent) : Type 
 
 abbrev pub TrialReturned : Type 0
 TrialReturned = (t : List ℕ) (items : List Item) → readText t ≡ accepted items → (l : Lent) → TrialKeepsFrame t items l
+
+-- LEAN
+
+-- "shall return the number, line, steps and values of run", and "gives a refused text the same number, line and results": of every text,
+-- every number of steps and areas of any length, the number returned and every byte
+abbrev pub LeanReturned : Type 0
+LeanReturned = (t work : List ℕ) (steps : ℕ) (results : List ℕ) → leanCall t work steps results ≡ runCall t work steps results

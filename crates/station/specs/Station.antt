@@ -8,7 +8,8 @@ use lib.ListN.{length}
 use Rattle.rules.specs.Limits.{work-bytes}
 use Rattle.rules.specs.Syntax.{Program}
 use Rattle.rules.specs.Bounds.{boundProgram}
-use Rattle.rules.specs.Calls.{Result, Bounds, refusedResult, boundNumbers}
+use Rattle.rules.specs.Lean as Lean
+use Rattle.rules.specs.Calls.{Result, Bounds, wholeHeap, outcomeResult, refusedResult, boundNumbers}
 use Rattle.rules.specs.Areas.{resultBytes, boundBytes, Checked, Ran, Bounded}
 use Rattle.reader.specs.Readings.{Tabled}
 use Rattle.station.specs.declared.Reply.{Reply}
@@ -33,6 +34,10 @@ RunAs r f results work = (numbersIn f ≡ runNumbers r) × (results ≡ resultBy
 -- the answer r, unless a refusal was found
 unfoldable pub unlessRefused : Reply → Result → Result
 unlessRefused f r = cond (eqb (f .number) 0) r (refusedResult (numbersIn f))
+
+-- a run of the program P by the lean machine
+abbrev pub leanRun : Program → ℕ → Result
+leanRun P k = outcomeResult (Lean.outcomeOf (Lean.runProgram wholeHeap P k))
 
 -- what a bound answers, and what it leaves in the bounds area
 abbrev pub BoundAs : Bounds → Reply → List ℕ → Type 0

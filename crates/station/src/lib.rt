@@ -1,10 +1,12 @@
-// The calls that a host links, `check`, `run`, `trial` and `bound`, and what the program prints. Each reads the text, does its work, and
+// The calls that a host links, `check`, `run`, `trial`, `lean` and `bound`, and what the program prints. Each reads the text, does its work, and
 // clears the work area.
 mod bounds;
+mod leans;
 
 use bounds::bound_found;
 use check_entailment::Answer;
 use checker::Verdict;
+use leans::lean_found;
 use machine::Ran;
 use printer::Number;
 use reader::Reading;
@@ -22,7 +24,7 @@ ghost use Rattle.rules.specs.Reading.{readText};
 ghost use Rattle.rules.specs.Rules.{checkProgram};
 ghost use Rattle.rules.specs.Machine.{runProgram};
 ghost use Rattle.rules.specs.Calls.{verdictNumbers, checkText, wholeHeap, outcomeResult};
-ghost use Rattle.rules.specs.Areas.{packed, wordsBytes, checkCall, runCall, trialCall, boundCall};
+ghost use Rattle.rules.specs.Areas.{packed, wordsBytes, checkCall, runCall, trialCall, leanCall, boundCall};
 ghost use Rattle.rules.specs.Printed.{printed};
 ghost use Rattle.tables.specs.Numbers.{half-values};
 ghost use Rattle.tables.specs.Decode.{programIn};
@@ -216,6 +218,23 @@ pub extern "C" fn trial(text: &[u8], work: &mut [u8], steps: u32, results: &mut 
     }
     let found = read_text(text, work);
     let f = run_found(found, work, steps, results);
+    areas::clear(work);
+    pack(f)
+}
+
+// LEAN
+
+// Runs main as `run` does, with the same answer and the same bytes, by the machine that tests no permission: of an accepted text none can
+// be missing.
+#[no_mangle]
+pub extern "C" fn lean(text: &[u8], work: &mut [u8], steps: u32, results: &mut [u8]) -> u32
+    ensures { λ r. ⌜ RunLeaves (leanCall (now (text .entry)) (now (work .entry)) steps (now (results .entry))) r (now (work .exit)) (now (results .exit)) ⌝ }
+{
+    if !areas::fit(work, results, Machine::RESULTS_BYTES) {
+        return Reply::WRONG_LENGTH;
+    }
+    let found = check_text(text, work);
+    let f = lean_found(found, work, steps, results);
     areas::clear(work);
     pack(f)
 }

@@ -1,25 +1,29 @@
 //! The commands that check, run, format and explain.
 
-use crate::files::{self, complain};
-use crate::session::{status, Session, DONE, FAILED, REFUSED};
-use crate::usage;
+use crate::args::number_of;
+use crate::authority::identity::build;
+use crate::files::{self, complain, Unread};
+use crate::misuse::Misuse;
+use crate::session::{status, Session, Status};
+use crate::table::Flag;
+use crate::usage::{self, Shell};
 use explain::{cards, cause, fmt, objects, show, Asked, Json, Report};
 use std::ffi::OsStr;
 
 /// `station check`: each file, then a count where there are many.
-pub fn check(session: &mut Session) -> u8 {
+pub fn check(session: &mut Session) -> Status {
     session.words.operands = files::expanded(&session.words.operands);
     let many = session.words.operands.len() > 1;
     let (mut accepted, mut refused) = (0, 0);
-    let mut worst = DONE;
+    let mut worst = Status::Done;
     for name in std::mem::take(&mut session.words.operands) {
         let Some(text) = session.text(&name) else {
-            worst = FAILED;
+            worst = Status::Failed;
             continue;
         };
         let shown = show::file_name(&name);
         let mut report = Report::of(&mut session.library, &shown, &text, Asked::Check);
-        if session.words.has("first") {
+        if session.words.has(Flag::First) {
             report.further.clear();
         }
         match report.good() {
@@ -29,26 +33,30 @@ pub fn check(session: &mut Session) -> u8 {
         worst = worst.max(status(&report));
         if session.json() {
             session.print_json(&objects::report(&report));
-        } else if session.words.has("short") {
+        } else if session.words.has(Flag::Short) {
             session.print(&show::short(&report));
-        } else if !(report.good() && session.words.has("quiet")) {
+        } else if !(report.good() && session.words.has(Flag::Quiet)) {
             session.print(&show::report(&report, session.paint));
         }
     }
-    if many && !session.json() && !session.words.has("short") && !session.words.has("quiet") {
+    if many && !session.json() && !session.words.has(Flag::Short) && !session.words.has(Flag::Quiet)
+    {
         session.print(&format!("{accepted} accepted, {refused} refused\n"));
     }
     worst
 }
 
 /// `station run` and `station trial`.
-pub fn run(session: &mut Session, asked: Asked) -> u8 {
+pub fn run(session: &mut Session, asked: Asked) -> Status {
     session.each(|session, name, text| {
         let shown = show::file_name(name);
         let report = Report::of(&mut session.library, &shown, text, asked);
-        let cards = report.ran.as_ref().filter(|_| session.words.has("cards"));
+        let cards = report
+            .ran
+            .as_ref()
+            .filter(|_| session.words.has(Flag::Cards));
         let cards = cards.and_then(|ran| cards::after(text, ran.outcome.steps()));
-        if cards.is_none() && session.words.has("cards") && report.ran.is_some() {
+        if cards.is_none() && session.words.has(Flag::Cards) && report.ran.is_some() {
             let most = cause::AGAIN;
             complain(&format!("cards are shown after at most {most} steps"));
         }
@@ -67,21 +75,22 @@ pub fn run(session: &mut Session, asked: Asked) -> u8 {
 }
 
 /// `station fmt`, one file.
-pub fn fmt_one(session: &mut Session, name: &OsStr, text: &[u8]) -> u8 {
+pub fn fmt_one(session: &mut Session, name: &OsStr, text: &[u8]) -> Status {
     let shown = show::file_name(name);
     if text.len() > nuyardi::limits::TEXT_BYTES {
-        let most = nuyardi::limits::TEXT_BYTES;
-        let error = std::io::Error::other(format!("more than {most} bytes; nothing is changed"));
-        session.unread(name, &error);
-        return REFUSED;
+        session.unread(name, &Unread::TooLong);
+        return Status::Refused;
     }
     let better = fmt::formatted(text);
     let same = better == text;
-    let (checks, writes) = (session.words.has("check"), session.words.has("write"));
+    let (checks, writes) = (
+        session.words.has(Flag::Check),
+        session.words.has(Flag::Write),
+    );
     if writes && !same && name != "-" {
         if let Err(error) = files::replace(name.as_ref(), &better) {
             session.unread(name, &error);
-            return FAILED;
+            return Status::Failed;
         }
     }
     if session.json() {
@@ -98,53 +107,41 @@ pub fn fmt_one(session: &mut Session, name: &OsStr, text: &[u8]) -> u8 {
         session.out.write(&better);
     }
     if checks && !same {
-        REFUSED
+        Status::Refused
     } else {
-        DONE
+        Status::Done
     }
 }
 
 /// `station explain`.
-pub fn explain(session: &mut Session) -> u8 {
-    let word = session
-        .words
-        .operands
-        .first()
-        .and_then(|word| word.to_str());
-    let number = word.and_then(|word| word.parse().ok());
-    let Some(known) = number.and_then(nuyardi::explain) else {
-        let numbers: Vec<String> = nuyardi::EXPLANATIONS
-            .iter()
-            .map(|known| known.number.to_string())
-            .collect();
-        complain(&format!(
-            "explain takes one of the numbers {}",
-            numbers.join(", ")
-        ));
-        return FAILED;
+pub fn explain(session: &mut Session) -> Status {
+    let word = session.words.operand();
+    let Some(known) = number_of(word).and_then(nuyardi::explain) else {
+        return session.misused(&Misuse::Number(word.to_os_string()));
     };
     match session.json() {
         true => session.print_json(&objects::explanation(known)),
         false => session.print(&show::explanation(known, session.paint)),
     }
-    DONE
+    Status::Done
 }
 
 /// `station completions`.
-pub fn completions(session: &mut Session) -> u8 {
-    let shell = session
-        .words
-        .operands
-        .first()
-        .and_then(|word| word.to_str());
-    match usage::completions(shell.unwrap_or("")) {
-        Some(text) => {
-            session.print(&text);
-            DONE
-        }
-        None => {
-            complain("completions takes bash, zsh or fish");
-            FAILED
-        }
+pub fn completions(session: &mut Session) -> Status {
+    let word = session.words.operand();
+    let Some(shell) = Shell::of(word) else {
+        return session.misused(&Misuse::Shell(word.to_os_string()));
+    };
+    session.print(&usage::completions(shell));
+    Status::Done
+}
+
+/// `station --version`: which command this is; as JSON also which library it was
+/// linked with, and by which logic that was proved.
+pub fn version(session: &mut Session) -> Status {
+    match session.json() {
+        true => session.print_json(&build(Json::object())),
+        false => session.print(concat!("station ", env!("CARGO_PKG_VERSION"), "\n")),
     }
+    Status::Done
 }

@@ -2,15 +2,50 @@
 
 use explain::show::file_name;
 use std::ffi::{OsStr, OsString};
+use std::fmt;
 use std::io::{ErrorKind, IsTerminal, Read, Write};
 use std::path::{Path, PathBuf};
 
 /// A text, or one byte more than a text may have.
 const READ_BYTES: u64 = nuyardi::limits::TEXT_BYTES as u64 + 1;
 
+/// Why a file can't be read or written.
+#[derive(Debug)]
+pub enum Unread {
+    System(std::io::Error),
+    /// A folder without a script, or where one file is wanted.
+    Folder,
+    /// More bytes than a text may have, where the rest would be lost.
+    TooLong,
+}
+
+impl From<std::io::Error> for Unread {
+    fn from(error: std::io::Error) -> Unread {
+        Unread::System(error)
+    }
+}
+
+impl fmt::Display for Unread {
+    fn fmt(&self, f: &mut fmt::Formatter<'_>) -> fmt::Result {
+        match self {
+            Unread::System(error) => write!(f, "{error}"),
+            Unread::Folder => {
+                write!(
+                    f,
+                    "a folder with no file that ends in .script, or not one file"
+                )
+            }
+            Unread::TooLong => {
+                let most = nuyardi::limits::TEXT_BYTES;
+                write!(f, "more than {most} bytes; nothing is changed")
+            }
+        }
+    }
+}
+
 /// The bytes of a file, or of standard input for `-`; at most one more than a
 /// text may have.
-pub fn read(name: &OsStr) -> std::io::Result<Vec<u8>> {
+pub fn read(name: &OsStr) -> Result<Vec<u8>, Unread> {
     let mut text = Vec::new();
     if name == "-" {
         std::io::stdin()
@@ -18,8 +53,7 @@ pub fn read(name: &OsStr) -> std::io::Result<Vec<u8>> {
             .take(READ_BYTES)
             .read_to_end(&mut text)?;
     } else if Path::new(name).is_dir() {
-        let said = "a folder with no file that ends in .script, or not one file";
-        return Err(std::io::Error::new(ErrorKind::IsADirectory, said));
+        return Err(Unread::Folder);
     } else {
         std::fs::File::open(name)?
             .take(READ_BYTES)
@@ -76,7 +110,7 @@ fn beside(file: &Path) -> PathBuf {
 /// Writes the file anew: the new text stands whole beside it before it takes
 /// its place, so that at no time the file is lost. A link is followed, and the
 /// file keeps its permissions.
-pub fn replace(file: &Path, text: &[u8]) -> std::io::Result<()> {
+pub fn replace(file: &Path, text: &[u8]) -> Result<(), Unread> {
     let file = std::fs::canonicalize(file)?;
     let fresh = beside(&file);
     let written = std::fs::OpenOptions::new()
@@ -92,7 +126,7 @@ pub fn replace(file: &Path, text: &[u8]) -> std::io::Result<()> {
     if written.is_err() {
         let _ = std::fs::remove_file(&fresh);
     }
-    written
+    Ok(written?)
 }
 
 /// Standard output. When its reader has gone away, nothing more is written, and
@@ -127,7 +161,7 @@ pub fn complain(message: &str) {
 }
 
 /// A file that can't be read or written.
-pub fn complain_of(name: &OsStr, error: &std::io::Error) {
+pub fn complain_of(name: &OsStr, error: &Unread) {
     complain(&format!("{}: {error}", file_name(name)));
 }
 

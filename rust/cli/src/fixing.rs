@@ -2,7 +2,8 @@
 //! told.
 
 use crate::files;
-use crate::session::{Session, DONE, FAILED, REFUSED};
+use crate::session::{Session, Status};
+use crate::table::Flag;
 use explain::cause::agreed;
 use explain::fix::{fix, Fix, WHOLE};
 use explain::{objects, show, Answers, Json};
@@ -45,16 +46,19 @@ fn object(file: &str, text: &[u8], accepted: bool, fix: Option<&Fix>, output: bo
 }
 
 /// `station fix`, one file.
-pub fn fix_one(session: &mut Session, name: &OsStr, text: &[u8]) -> u8 {
+pub fn fix_one(session: &mut Session, name: &OsStr, text: &[u8]) -> Status {
     let shown = show::file_name(name);
     let accepted = session.library.check(text).is_ok();
     let found = fix(text, WHOLE).filter(|_| !accepted);
     let found = found.filter(|fix| agreed(&mut session.library, fix));
-    let (checks, writes) = (session.words.has("check"), session.words.has("write"));
+    let (checks, writes) = (
+        session.words.has(Flag::Check),
+        session.words.has(Flag::Write),
+    );
     if let Some(fix) = found.as_ref().filter(|_| writes && name != "-") {
         if let Err(error) = files::replace(name.as_ref(), &fix.text) {
             session.unread(name, &error);
-            return FAILED;
+            return Status::Failed;
         }
     }
     let prints = !checks && (!writes || name == "-");
@@ -70,8 +74,8 @@ pub fn fix_one(session: &mut Session, name: &OsStr, text: &[u8]) -> u8 {
     }
     let good = accepted || found.as_ref().is_some_and(Fix::accepted);
     match good && !(checks && found.is_some()) {
-        true => DONE,
-        false => REFUSED,
+        true => Status::Done,
+        false => Status::Refused,
     }
 }
 

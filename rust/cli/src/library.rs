@@ -18,6 +18,11 @@ impl Answers for Library {
         self.0.run(text, steps).map(Outcome::from)
     }
 
+    fn lean<'t>(&mut self, text: &'t [u8], steps: u32) -> Result<Outcome<'t>, Refusal> {
+        let _progress = Progress::start(steps);
+        self.0.lean(text, steps).map(Outcome::from)
+    }
+
     fn trial<'t>(&mut self, text: &'t [u8], steps: u32) -> Outcome<'t> {
         let _progress = Progress::start(steps);
         self.0.trial(text, steps)

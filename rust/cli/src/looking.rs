@@ -1,7 +1,8 @@
 //! The commands that look into a text: trace, known, draw and bound.
 
 use crate::files::complain;
-use crate::session::{status, Session, DONE, FAILED, REFUSED};
+use crate::session::{status, Session, Status};
+use crate::table::Flag;
 use explain::known::{self, Known};
 use explain::script::{quoted, Script};
 use explain::show::{self, file_name};
@@ -9,11 +10,14 @@ use explain::{cards, draw, objects, trace, Asked, Bounded, Report};
 use std::ffi::{OsStr, OsString};
 
 /// `station trace`, one file.
-pub fn trace_one(session: &mut Session, name: &OsStr, text: &[u8]) -> u8 {
+pub fn trace_one(session: &mut Session, name: &OsStr, text: &[u8]) -> Status {
     let shown = file_name(name);
     let asked = session.shown_run();
     let report = Report::of(&mut session.library, &shown, text, asked);
-    let cards = report.ran.as_ref().filter(|_| session.words.has("cards"));
+    let cards = report
+        .ran
+        .as_ref()
+        .filter(|_| session.words.has(Flag::Cards));
     let cards = cards.and_then(|ran| cards::after(text, ran.outcome.steps()));
     if session.json() {
         let object = trace::json(&report);
@@ -33,7 +37,7 @@ pub fn trace_one(session: &mut Session, name: &OsStr, text: &[u8]) -> u8 {
 }
 
 /// `station draw`, one file.
-pub fn draw_one(session: &mut Session, name: &OsStr, text: &[u8]) -> u8 {
+pub fn draw_one(session: &mut Session, name: &OsStr, text: &[u8]) -> Status {
     let shown = file_name(name);
     let asked = session.shown_run();
     let report = Report::of(&mut session.library, &shown, text, asked);
@@ -52,23 +56,23 @@ pub fn draw_one(session: &mut Session, name: &OsStr, text: &[u8]) -> u8 {
     }
     // A stopped run has its picture too; a text that is not run has none.
     match picture {
-        Some(_) => DONE,
-        None => REFUSED,
+        Some(_) => Status::Done,
+        None => Status::Refused,
     }
 }
 
 /// `station bound`, one file.
-pub fn bound_one(session: &mut Session, name: &OsStr, text: &[u8]) -> u8 {
+pub fn bound_one(session: &mut Session, name: &OsStr, text: &[u8]) -> Status {
     let shown = file_name(name);
-    let why = session.words.has("why");
+    let why = session.words.has(Flag::Why);
     let bounded = Bounded::of(&mut session.library, &shown, text, why);
     match session.json() {
         true => session.print_json(&bounded.json()),
         false => session.print(&bounded.shown(session.paint)),
     }
     match bounded.found {
-        Ok(_) => DONE,
-        Err(_) => REFUSED,
+        Ok(_) => Status::Done,
+        Err(_) => Status::Refused,
     }
 }
 
@@ -107,11 +111,11 @@ fn print_known(
 }
 
 /// `station known`.
-pub fn known(session: &mut Session) -> u8 {
+pub fn known(session: &mut Session) -> Status {
     let word = session.words.operands.first().cloned().unwrap_or_default();
     let (name, line) = file_and_line(&word);
     let Some(text) = session.text(&name) else {
-        return FAILED;
+        return Status::Failed;
     };
     let shown = file_name(&name);
     let report = Report::of(&mut session.library, &shown, &text, Asked::Check);
@@ -119,7 +123,7 @@ pub fn known(session: &mut Session) -> u8 {
     let patched = explain::all::readable(&text);
     let Some(script) = Script::of(patched.as_deref().unwrap_or(&text)) else {
         session.print_report(&report);
-        return REFUSED;
+        return Status::Refused;
     };
     let found = match line {
         Some(line) => known::at(&script, line).into_iter().collect(),
@@ -127,14 +131,14 @@ pub fn known(session: &mut Session) -> u8 {
     };
     if found.is_empty() && known::all(&script).is_empty() {
         session.print_report(&report);
-        return REFUSED;
+        return Status::Refused;
     }
     if found.is_empty() {
         let line = line.unwrap_or(0);
         complain(&format!(
             "{shown} has no statement at line {line} or after it"
         ));
-        return FAILED;
+        return Status::Failed;
     }
     print_known(session, &script, &report, &found, line.is_some());
     status(&report)

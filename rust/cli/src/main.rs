@@ -9,6 +9,7 @@ mod fixing;
 mod library;
 mod looking;
 mod lsp;
+mod misuse;
 mod progress;
 mod session;
 mod table;
@@ -19,40 +20,38 @@ use explain::show::Paint;
 use explain::Asked;
 use files::{complain, Out};
 use library::Library;
-use session::{Session, DONE, FAILED};
+use session::{Session, Status};
 use std::process::ExitCode;
+use table::{Command, Flag};
 
-fn dispatch(session: &mut Session) -> u8 {
+fn dispatch(session: &mut Session) -> Status {
+    let steps = session.words.steps;
     match session.words.command {
-        "check" => commands::check(session),
-        "run" => commands::run(session, Asked::Run(session.words.steps)),
-        "trial" => commands::run(session, Asked::Trial(session.words.steps)),
-        "trace" => session.each(looking::trace_one),
-        "known" => looking::known(session),
-        "draw" => session.each(looking::draw_one),
-        "bound" => session.each_script(looking::bound_one),
-        "report" => authority::report(session),
-        "fmt" | "tabs" => session.each_script(commands::fmt_one),
-        "fix" => session.each_script(fixing::fix_one),
-        "explain" => commands::explain(session),
-        "completions" => commands::completions(session),
-        "lsp" => lsp::serve(),
-        command => {
-            let text = match command {
-                "man" => usage::man(),
-                "version" => concat!("station ", env!("CARGO_PKG_VERSION"), "\n").to_string(),
-                _ => {
-                    let of = session
-                        .words
-                        .operands
-                        .first()
-                        .and_then(|word| word.to_str());
-                    usage::help(of)
-                }
+        Command::Check => commands::check(session),
+        Command::Run => {
+            let asked = match session.words.has(Flag::Lean) {
+                true => Asked::Lean(steps),
+                false => Asked::Run(steps),
             };
-            session.print(&text);
-            DONE
+            commands::run(session, asked)
         }
+        Command::Trial => commands::run(session, Asked::Trial(steps)),
+        Command::Trace => session.each(looking::trace_one),
+        Command::Known => looking::known(session),
+        Command::Draw => session.each(looking::draw_one),
+        Command::Bound => session.each_script(looking::bound_one),
+        Command::Report => authority::report(session),
+        Command::Fmt => session.each_script(commands::fmt_one),
+        Command::Fix => session.each_script(fixing::fix_one),
+        Command::Explain => commands::explain(session),
+        Command::Completions => commands::completions(session),
+        Command::Lsp => lsp::serve(),
+        Command::Man => session.shown(&usage::man()),
+        Command::Help => {
+            let of = args::command_of(session.words.operand());
+            session.shown(&usage::help(of))
+        }
+        Command::Version => commands::version(session),
     }
 }
 
@@ -60,9 +59,9 @@ fn main() -> ExitCode {
     let words = std::env::args_os().skip(1);
     let words = match args::parse(words) {
         Ok(words) => words,
-        Err(message) => {
-            complain(&format!("{message}\nstation help shows every command"));
-            return FAILED.into();
+        Err(misuse) => {
+            complain(&format!("{misuse}\nstation help shows every command"));
+            return Status::Failed.into();
         }
     };
     let colour = match words.colour {
@@ -78,7 +77,7 @@ fn main() -> ExitCode {
     };
     let status = dispatch(&mut session);
     match session.out.failed {
-        true => FAILED.into(),
+        true => Status::Failed.into(),
         false => status.into(),
     }
 }

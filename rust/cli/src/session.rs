@@ -1,25 +1,45 @@
 //! One call of the command: its words, the library, and where it writes.
 
 use crate::args::Parsed;
-use crate::files::{self, complain_of, Out};
+use crate::files::{self, complain, complain_of, Out, Unread};
 use crate::library::Library;
+use crate::misuse::Misuse;
+use crate::table::Flag;
 use explain::show::{self, Paint};
 use explain::{objects, Asked, Json, Report};
 use std::ffi::OsStr;
+use std::process::ExitCode;
 
-/// Accepted, bounded or finished.
-pub const DONE: u8 = 0;
-/// Refused, without a bound or stopped.
-pub const REFUSED: u8 = 1;
-/// Wrong use, or a file that can't be read.
-pub const FAILED: u8 = 2;
+/// How a call of the command ends; the worse, the higher.
+#[derive(Clone, Copy, Debug, PartialEq, Eq, PartialOrd, Ord)]
+pub enum Status {
+    /// Accepted, bounded or finished.
+    Done = 0,
+    /// Refused, without a bound or stopped.
+    Refused = 1,
+    /// Wrong use, or a file that can't be read.
+    Failed = 2,
+}
+
+impl Status {
+    /// Done, if what was asked came out well.
+    pub fn of(good: bool) -> Status {
+        match good {
+            true => Status::Done,
+            false => Status::Refused,
+        }
+    }
+}
+
+impl From<Status> for ExitCode {
+    fn from(status: Status) -> ExitCode {
+        ExitCode::from(status as u8)
+    }
+}
 
 /// Done if the text is accepted, or finished where it was run.
-pub fn status(report: &Report) -> u8 {
-    match report.good() {
-        true => DONE,
-        false => REFUSED,
-    }
+pub fn status(report: &Report) -> Status {
+    Status::of(report.good())
 }
 
 /// One call of the command: its words, and where it writes.
@@ -32,12 +52,18 @@ pub struct Session {
 
 impl Session {
     pub fn json(&self) -> bool {
-        self.words.has("json")
+        self.words.has(Flag::Json)
+    }
+
+    /// The words can't be done.
+    pub fn misused(&self, misuse: &Misuse) -> Status {
+        complain(&misuse.to_string());
+        Status::Failed
     }
 
     /// The run that trace and draw show; with `--trial` a trial.
     pub fn shown_run(&self) -> Asked {
-        match self.words.has("trial") {
+        match self.words.has(Flag::Trial) {
             true => Asked::Trial(self.words.steps),
             false => Asked::Run(self.words.steps),
         }
@@ -45,6 +71,12 @@ impl Session {
 
     pub fn print(&mut self, text: &str) {
         self.out.write(text.as_bytes());
+    }
+
+    /// A text that is all there is to say.
+    pub fn shown(&mut self, text: &str) -> Status {
+        self.print(text);
+        Status::Done
     }
 
     pub fn print_json(&mut self, value: &Json) {
@@ -70,7 +102,7 @@ impl Session {
         }
     }
 
-    pub fn unread(&mut self, name: &OsStr, error: &std::io::Error) {
+    pub fn unread(&mut self, name: &OsStr, error: &Unread) {
         if self.json() {
             let object = objects::unread(&show::file_name(name), &error.to_string());
             self.print_json(&object);
@@ -79,13 +111,13 @@ impl Session {
     }
 
     /// Each file by one function; the worst status.
-    pub fn each(&mut self, one: impl Fn(&mut Session, &OsStr, &[u8]) -> u8) -> u8 {
+    pub fn each(&mut self, one: impl Fn(&mut Session, &OsStr, &[u8]) -> Status) -> Status {
         let names = std::mem::take(&mut self.words.operands);
-        let mut worst = DONE;
+        let mut worst = Status::Done;
         for name in names {
             let status = match self.text(&name) {
                 Some(text) => one(self, &name, &text),
-                None => FAILED,
+                None => Status::Failed,
             };
             worst = worst.max(status);
         }
@@ -93,7 +125,7 @@ impl Session {
     }
 
     /// The same, each folder replaced by its scripts.
-    pub fn each_script(&mut self, one: impl Fn(&mut Session, &OsStr, &[u8]) -> u8) -> u8 {
+    pub fn each_script(&mut self, one: impl Fn(&mut Session, &OsStr, &[u8]) -> Status) -> Status {
         self.words.operands = files::expanded(&self.words.operands);
         self.each(one)
     }

@@ -1,8 +1,52 @@
 //! The one table of commands and options, by which the parser, the help, the
 //! man page and the shells' completions go.
 
-/// A command of `station`.
+/// What `station` is asked to do.
+#[derive(Clone, Copy, Debug, PartialEq, Eq)]
+pub enum Command {
+    Check,
+    Run,
+    Trial,
+    Bound,
+    Report,
+    Trace,
+    Known,
+    Draw,
+    Fmt,
+    Fix,
+    Explain,
+    Lsp,
+    Completions,
+    Man,
+    Help,
+    Version,
+}
+
+/// An option, whatever its value.
+#[derive(Clone, Copy, Debug, PartialEq, Eq)]
+pub enum Flag {
+    Steps,
+    Lean,
+    Cards,
+    Trial,
+    Why,
+    Short,
+    First,
+    Quiet,
+    Check,
+    Write,
+    Html,
+    NoTime,
+    Json,
+    Color,
+    Help,
+    Version,
+}
+
+/// A command of `station`, by a name.
+#[derive(Debug)]
 pub struct CommandSpec {
+    pub command: Command,
     pub name: &'static str,
     /// Its operands, as the help shows them.
     pub operands: &'static str,
@@ -15,18 +59,36 @@ pub struct CommandSpec {
 }
 
 /// An option: `--name`, or `--name VALUE`.
+#[derive(Debug)]
 pub struct OptionSpec {
+    pub flag: Flag,
     pub name: &'static str,
     pub short: Option<char>,
     pub value: Option<&'static str>,
     pub about: &'static str,
     /// The commands that take it; none for all.
-    pub commands: &'static [&'static str],
+    pub commands: &'static [Command],
+}
+
+impl Command {
+    /// The first name of the command.
+    pub fn name(self) -> &'static str {
+        let mut rows = COMMANDS.iter();
+        rows.find(|row| row.command == self)
+            .map_or("", |row| row.name)
+    }
+}
+
+impl OptionSpec {
+    pub fn taken_by(&self, command: Command) -> bool {
+        self.commands.is_empty() || self.commands.contains(&command)
+    }
 }
 
 const MANY: usize = usize::MAX;
 
 const fn command(
+    command: Command,
     name: &'static str,
     operands: &'static str,
     about: &'static str,
@@ -34,6 +96,7 @@ const fn command(
     most: usize,
 ) -> CommandSpec {
     CommandSpec {
+        command,
         name,
         operands,
         about,
@@ -45,14 +108,23 @@ const fn command(
 
 pub const COMMANDS: &[CommandSpec] = &[
     command(
+        Command::Check,
         "check",
         "FILE..",
         "is each script accepted? a folder stands for its scripts",
         1,
         MANY,
     ),
-    command("run", "FILE", "run a script that check accepts", 1, 1),
     command(
+        Command::Run,
+        "run",
+        "FILE",
+        "run a script that check accepts",
+        1,
+        1,
+    ),
+    command(
+        Command::Trial,
         "trial",
         "FILE",
         "run a script, also one that check refuses, to try it out",
@@ -60,6 +132,7 @@ pub const COMMANDS: &[CommandSpec] = &[
         1,
     ),
     command(
+        Command::Bound,
         "bound",
         "FILE..",
         "the most steps that a run can take, known before it",
@@ -67,6 +140,7 @@ pub const COMMANDS: &[CommandSpec] = &[
         MANY,
     ),
     command(
+        Command::Report,
         "report",
         "FILE..",
         "what the licensing authority asks, for each script",
@@ -74,6 +148,7 @@ pub const COMMANDS: &[CommandSpec] = &[
         MANY,
     ),
     command(
+        Command::Trace,
         "trace",
         "FILE",
         "run a script, and show each step with what it changed",
@@ -81,6 +156,7 @@ pub const COMMANDS: &[CommandSpec] = &[
         1,
     ),
     command(
+        Command::Known,
         "known",
         "FILE[:LINE]",
         "what the checker knows before and after a line",
@@ -88,6 +164,7 @@ pub const COMMANDS: &[CommandSpec] = &[
         1,
     ),
     command(
+        Command::Draw,
         "draw",
         "FILE",
         "the cards and their links after a run, as an SVG picture",
@@ -95,6 +172,7 @@ pub const COMMANDS: &[CommandSpec] = &[
         1,
     ),
     command(
+        Command::Fmt,
         "fmt",
         "FILE..",
         "print a text with its blanks, line ends and signs put right",
@@ -102,6 +180,7 @@ pub const COMMANDS: &[CommandSpec] = &[
         MANY,
     ),
     command(
+        Command::Fix,
         "fix",
         "FILE..",
         "print a text with the fixes that were found, each tried before",
@@ -109,6 +188,7 @@ pub const COMMANDS: &[CommandSpec] = &[
         MANY,
     ),
     command(
+        Command::Explain,
         "explain",
         "NUMBER",
         "what a number means, and what usually helps",
@@ -116,6 +196,7 @@ pub const COMMANDS: &[CommandSpec] = &[
         1,
     ),
     command(
+        Command::Lsp,
         "lsp",
         "",
         "serve an editor over standard input and output",
@@ -123,27 +204,41 @@ pub const COMMANDS: &[CommandSpec] = &[
         0,
     ),
     command(
+        Command::Completions,
         "completions",
         "SHELL",
         "completions for bash, zsh or fish",
         1,
         1,
     ),
-    command("man", "", "this help as a man page", 0, 0),
-    command("help", "[COMMAND]", "this help, or that of a command", 0, 1),
+    command(Command::Man, "man", "", "this help as a man page", 0, 0),
+    command(
+        Command::Help,
+        "help",
+        "[COMMAND]",
+        "this help, or that of a command",
+        0,
+        1,
+    ),
     CommandSpec {
         hidden: true,
-        ..command("tabs", "FILE", "as fmt", 1, 1)
+        ..command(Command::Version, "version", "", "as --version", 0, 0)
+    },
+    CommandSpec {
+        hidden: true,
+        ..command(Command::Fmt, "tabs", "FILE", "as fmt", 1, 1)
     },
 ];
 
 const fn option(
+    flag: Flag,
     name: &'static str,
     value: Option<&'static str>,
     about: &'static str,
-    commands: &'static [&'static str],
+    commands: &'static [Command],
 ) -> OptionSpec {
     OptionSpec {
+        flag,
         name,
         short: None,
         value,
@@ -154,79 +249,120 @@ const fn option(
 
 pub const OPTIONS: &[OptionSpec] = &[
     option(
+        Flag::Steps,
         "steps",
         Some("N"),
         "allow N steps in place of 1,000",
-        &["run", "trial", "trace", "draw", "report"],
+        &[
+            Command::Run,
+            Command::Trial,
+            Command::Trace,
+            Command::Draw,
+            Command::Report,
+        ],
     ),
     option(
+        Flag::Lean,
+        "lean",
+        None,
+        "take the lean machine: the same answer, sooner in a long run",
+        &[Command::Run],
+    ),
+    option(
+        Flag::Cards,
         "cards",
         None,
         "show the cards at the end, or at a stop",
-        &["run", "trial", "trace"],
+        &[Command::Run, Command::Trial, Command::Trace],
     ),
     option(
+        Flag::Trial,
         "trial",
         None,
         "show a trial, also of a script that check refuses",
-        &["trace", "draw"],
+        &[Command::Trace, Command::Draw],
     ),
     option(
+        Flag::Why,
         "why",
         None,
         "show the calls that a bound comes from",
-        &["bound"],
+        &[Command::Bound],
     ),
     option(
+        Flag::Short,
         "short",
         None,
         "one line for each refusal: FILE:LINE:COLUMN: what is wrong",
-        &["check"],
+        &[Command::Check],
     ),
     option(
+        Flag::First,
         "first",
         None,
         "only the first refusal of each file",
-        &["check"],
+        &[Command::Check],
     ),
     OptionSpec {
         short: Some('q'),
-        ..option("quiet", None, "say nothing of accepted files", &["check"])
+        ..option(
+            Flag::Quiet,
+            "quiet",
+            None,
+            "say nothing of accepted files",
+            &[Command::Check],
+        )
     },
     option(
+        Flag::Check,
         "check",
         None,
         "change nothing; status 1 if a file would be changed",
-        &["fmt", "fix"],
+        &[Command::Fmt, Command::Fix],
     ),
     option(
+        Flag::Write,
         "write",
         None,
         "write the files again, each whole or not at all",
-        &["fmt", "fix"],
+        &[Command::Fmt, Command::Fix],
     ),
     option(
+        Flag::Html,
         "html",
         Some("FILE"),
         "write a page with all in it, whole or not at all",
-        &["report"],
+        &[Command::Report],
     ),
     option(
+        Flag::NoTime,
         "no-time",
         None,
         "leave out the time: the same bytes each time",
-        &["report"],
+        &[Command::Report],
     ),
     option(
+        Flag::Json,
         "json",
         None,
         "JSON, an object for each file",
         &[
-            "check", "run", "trial", "bound", "report", "trace", "known", "draw", "fmt", "fix",
-            "explain",
+            Command::Check,
+            Command::Run,
+            Command::Trial,
+            Command::Bound,
+            Command::Report,
+            Command::Trace,
+            Command::Known,
+            Command::Draw,
+            Command::Fmt,
+            Command::Fix,
+            Command::Explain,
+            Command::Version,
         ],
     ),
     option(
+        Flag::Color,
         "color",
         Some("WHEN"),
         "auto, always or never; NO_COLOR is heeded",
@@ -234,10 +370,16 @@ pub const OPTIONS: &[OptionSpec] = &[
     ),
     OptionSpec {
         short: Some('h'),
-        ..option("help", None, "the help", &[])
+        ..option(Flag::Help, "help", None, "the help", &[])
     },
     OptionSpec {
         short: Some('V'),
-        ..option("version", None, "the version", &[])
+        ..option(
+            Flag::Version,
+            "version",
+            None,
+            "the version; with --json also the sums of library and logic",
+            &[],
+        )
     },
 ];

@@ -1,7 +1,8 @@
 //! The help, the man page and the shells' completions, from the table of
 //! commands and options.
 
-use crate::table::{CommandSpec, OptionSpec, COMMANDS, OPTIONS};
+use crate::table::{Command, CommandSpec, OptionSpec, COMMANDS, OPTIONS};
+use std::ffi::OsStr;
 use std::fmt::Write;
 
 const HEAD: &str = "station: check and run catalogue scripts";
@@ -9,7 +10,8 @@ const HEAD: &str = "station: check and run catalogue scripts";
 const FOOT: &str = "\
 FILE may be - for standard input. run, trace and draw refuse what check refuses.
 trial, and --trial, also run a text that check refuses with one of the numbers
-10 to 14, after saying so.
+10 to 14, after saying so. run tests every permission; run --lean says the same
+without these tests, which an accepted script never fails.
 
 Exit status: 0 accepted, bounded or finished; 1 refused, without a bound or
 stopped; 2 wrong use, or a file that can't be read or written (the other files
@@ -20,10 +22,14 @@ fn shown() -> impl Iterator<Item = &'static CommandSpec> {
     COMMANDS.iter().filter(|spec| !spec.hidden)
 }
 
-fn taken_by(command: &str) -> impl Iterator<Item = &'static OptionSpec> + '_ {
-    let takes =
-        move |spec: &&OptionSpec| spec.commands.is_empty() || spec.commands.contains(&command);
-    OPTIONS.iter().filter(takes)
+fn taken_by(command: Command) -> impl Iterator<Item = &'static OptionSpec> {
+    OPTIONS.iter().filter(move |spec| spec.taken_by(command))
+}
+
+/// The names of the commands that take an option and stand in the help.
+fn takers(option: &OptionSpec) -> Vec<&'static str> {
+    let takes = |spec: &&CommandSpec| option.commands.contains(&spec.command);
+    shown().filter(takes).map(|spec| spec.name).collect()
 }
 
 /// `-q, --quiet` or `--steps N`.
@@ -42,14 +48,14 @@ fn row(out: &mut String, left: &str, right: &str) {
 }
 
 /// The help of a command, or of all.
-pub fn help(command: Option<&str>) -> String {
-    let spec = shown().find(|spec| Some(spec.name) == command);
+pub fn help(command: Option<Command>) -> String {
+    let spec = shown().find(|spec| Some(spec.command) == command);
     let mut out = String::new();
     match spec {
         Some(spec) => {
             let _ = writeln!(out, "station {} [OPTION..] {}", spec.name, spec.operands);
             let _ = writeln!(out, "  {}\n", spec.about);
-            for option in taken_by(spec.name) {
+            for option in taken_by(spec.command) {
                 row(&mut out, &written(option), option.about);
             }
         }
@@ -90,9 +96,9 @@ pub fn man() -> String {
     }
     let _ = writeln!(out, ".SH OPTIONS");
     for option in OPTIONS {
-        let with = match option.commands {
+        let with = match &takers(option)[..] {
             [] => String::new(),
-            commands => format!(" ({})", commands.join(", ")),
+            names => format!(" ({})", names.join(", ")),
         };
         let about = safe(&format!("{}{with}", option.about));
         let _ = writeln!(out, ".TP\n.B {}\n{about}", safe(&written(option)));
@@ -112,7 +118,7 @@ pub fn man() -> String {
     out
 }
 
-fn option_words(command: &str) -> String {
+fn option_words(command: Command) -> String {
     let words: Vec<String> = taken_by(command)
         .map(|spec| format!("--{}", spec.name))
         .collect();
@@ -127,7 +133,7 @@ fn bash() -> String {
             cases,
             "    {}) words=\"{}\" ;;",
             spec.name,
-            option_words(spec.name)
+            option_words(spec.command)
         );
     }
     format!(
@@ -149,7 +155,7 @@ fn zsh() -> String {
     out.push_str(")\nif (( CURRENT == 2 )); then\n  _describe command commands\n  return\nfi\ncase $words[2] in\n");
     for spec in shown() {
         let _ = write!(out, "  {}) _arguments", spec.name);
-        for option in taken_by(spec.name) {
+        for option in taken_by(spec.command) {
             let value = option
                 .value
                 .map_or(String::new(), |value| format!(":{value}:"));
@@ -171,7 +177,7 @@ fn fish() -> String {
             "complete -c station -n __fish_use_subcommand -a {} -d '{about}'",
             spec.name
         );
-        for option in taken_by(spec.name) {
+        for option in taken_by(spec.command) {
             let (name, about) = (option.name, quoted(option.about));
             let value = if option.value.is_some() { " -r" } else { "" };
             let seen = format!("'__fish_seen_subcommand_from {}'", spec.name);
@@ -184,12 +190,31 @@ fn fish() -> String {
     out
 }
 
-/// The completions of a shell, if it is one of the three.
-pub fn completions(shell: &str) -> Option<String> {
+/// A shell that has completions.
+#[derive(Clone, Copy, Debug, PartialEq, Eq)]
+pub enum Shell {
+    Bash,
+    Zsh,
+    Fish,
+}
+
+impl Shell {
+    /// The shell of a name.
+    pub fn of(name: &OsStr) -> Option<Shell> {
+        match name.to_str()? {
+            "bash" => Some(Shell::Bash),
+            "zsh" => Some(Shell::Zsh),
+            "fish" => Some(Shell::Fish),
+            _ => None,
+        }
+    }
+}
+
+/// The completions of a shell.
+pub fn completions(shell: Shell) -> String {
     match shell {
-        "bash" => Some(bash()),
-        "zsh" => Some(zsh()),
-        "fish" => Some(fish()),
-        _ => None,
+        Shell::Bash => bash(),
+        Shell::Zsh => zsh(),
+        Shell::Fish => fish(),
     }
 }

@@ -44,6 +44,35 @@ fn check() {
     assert!(matches!(noted.get("note"), Some(Json::Text(_))));
 }
 
+/// Which build the command is: what a report says of it, and the sum of the library
+/// that is linked.
+#[test]
+fn version() {
+    let told = object(&["--version", "--json"], b"");
+    for words in [["version", "--json"], ["-V", "--json"]] {
+        assert_eq!(object(&words, b""), told);
+    }
+    let report = object(&["report", "--json", "examples/tag.script"], b"");
+    for (name, value) in [
+        ("version", env!("CARGO_PKG_VERSION")),
+        ("library", env!("LIBRARY_SHA256")),
+        ("logic", env!("LOGIC_SUM")),
+    ] {
+        assert_eq!(told.get(name), Some(&text(value)), "{name}");
+    }
+    for name in ["version", "level", "library", "logic"] {
+        assert!(told.get(name).is_some(), "{name}");
+        assert_eq!(told.get(name), report.get(name), "{name}");
+    }
+    let Json::Object(fields) = &told else {
+        panic!("no object: {told:?}");
+    };
+    assert_eq!(fields.len(), 4, "{told:?}");
+    let (plain, _, status) = said(&["--version"], b"");
+    let version = env!("CARGO_PKG_VERSION");
+    assert_eq!((plain, status), (format!("station {version}\n"), 0));
+}
+
 #[test]
 fn run() {
     let run = object(

@@ -4,7 +4,7 @@
 
 #![deny(missing_docs)]
 
-use explain::{draw, objects, trace, Asked, Report};
+use explain::{cards, draw, objects, trace, Asked, Report};
 use nuyardi::{limits, Station};
 use std::ffi::c_char;
 use std::panic::catch_unwind;
@@ -91,6 +91,15 @@ fn run_said(text: &[u8], steps: u32) -> String {
     objects::report(&report(text, Asked::Run(steps))).to_string()
 }
 
+fn cards_said(text: &[u8], steps: u32) -> String {
+    let report = report(text, Asked::Run(steps));
+    let ran = report.ran.as_ref();
+    let cards = ran.and_then(|ran| cards::after(text, ran.outcome.steps()));
+    let object = objects::report(&report);
+    let object = object.with_some("cards", cards.map(|cards| cards.json()));
+    object.to_string()
+}
+
 fn steps_said(text: &[u8], steps: u32) -> String {
     trace::json_lines(&report(text, Asked::Run(steps)))
 }
@@ -141,6 +150,28 @@ pub unsafe extern "C" fn nuyardi_explain_run(
     };
     // SAFETY: by the caller's promise.
     unsafe { said(text, length, out, run_said, steps) }
+}
+
+/// The same with the cards that the run made: what `station run --json --cards
+/// --steps N -` prints.
+///
+/// # Safety
+///
+/// As for [`nuyardi_explain`].
+#[no_mangle]
+pub unsafe extern "C" fn nuyardi_cards(
+    text: *const u8,
+    length: usize,
+    steps: u32,
+    out: *mut c_char,
+    capacity: usize,
+) -> usize {
+    let out = Out {
+        bytes: out,
+        capacity,
+    };
+    // SAFETY: by the caller's promise.
+    unsafe { said(text, length, out, cards_said, steps) }
 }
 
 /// Each step of such a run as a line of JSON, then what [`nuyardi_explain_run`]

@@ -1,7 +1,7 @@
 //! The header, and a C program that uses it: what it is told is what the command
 //! prints, byte by byte.
 
-use explain::{draw, objects, trace, Asked, Report};
+use explain::{cards, draw, objects, trace, Asked, Report};
 use nuyardi::{limits, Station};
 use std::path::{Path, PathBuf};
 use std::process::Command;
@@ -61,16 +61,43 @@ fn texts() -> Vec<Vec<u8>> {
     texts
 }
 
-/// What the program prints of a text: the answers of the four functions.
+/// What the program prints of a text: the answers of all functions.
 fn expected(text: &[u8]) -> String {
     let text = &text[..text.len().min(limits::TEXT_BYTES + 1)];
     let mut station = Station::new();
     let checked = Report::of(&mut station, "-", text, Asked::Check);
     let ran = Report::of(&mut station, "-", text, Asked::Run(STEPS));
     let (check, run) = (objects::report(&checked), objects::report(&ran));
+    let made = ran.ran.as_ref();
+    let made = made.and_then(|ran| cards::after(text, ran.outcome.steps()));
+    let made = objects::report(&ran).with_some("cards", made.map(|cards| cards.json()));
     let (steps, picture) = (trace::json_lines(&ran), draw::picture(&ran));
     let picture = picture.unwrap_or_default();
-    format!("{check}\n{run}\n{steps}\n{picture}\n")
+    format!("{check}\n{run}\n{made}\n{steps}\n{picture}\n")
+}
+
+/// How far the model takes the steps again, as the header and the packages say.
+#[test]
+fn steps_for_cards() {
+    let most = explain::show::grouped(explain::cause::AGAIN.into());
+    let said = format!("after more than {most} steps");
+    for (name, times) in [
+        ("include/nuyardi_explain.h", 2),
+        ("python/nuyardi/_explain.py", 2),
+        ("R/nuyardi/man/station_explain.Rd", 1),
+        ("R/nuyardi/man/station_cards.Rd", 1),
+    ] {
+        let text = std::fs::read_to_string(root().join(name)).expect(name);
+        let words: Vec<&str> = text
+            .split_whitespace()
+            .filter(|word| *word != "*")
+            .collect();
+        assert_eq!(
+            words.join(" ").matches(&said).count(),
+            times,
+            "{said} in {name}"
+        );
+    }
 }
 
 fn called_from_c(library: &str) {
@@ -84,6 +111,8 @@ fn called_from_c(library: &str) {
         std::fs::write(name, text).expect("a text");
     }
     let mut program = Command::new(compiled(library));
+    // The library that was built with this test, and none that an earlier build left.
+    program.env_remove("LD_LIBRARY_PATH");
     let output = program.arg(STEPS.to_string()).args(&names).output();
     let output = output.expect("the program");
     let errors = String::from_utf8_lossy(&output.stderr);

@@ -246,10 +246,10 @@ fn ruled(pass: &mut Pass) -> Option<()> {
             continue;
         };
         pass.found.push(Further {
-            number: refusal.number,
+            number: refusal.number(),
             line: refusal.line,
             cause: crate::cause::rules::cause_in(&script, &record, refusal.line)
-                .map(|cause| cause.with_fix(refusal.number, None)),
+                .map(|cause| cause.with_fix(refusal.number(), None)),
         });
     }
     Some(())

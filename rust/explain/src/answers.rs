@@ -11,6 +11,9 @@ pub trait Answers {
     /// A run of at most so many steps, of a text that is accepted.
     fn run<'t>(&mut self, text: &'t [u8], steps: u32) -> Result<Outcome<'t>, Refusal>;
 
+    /// What `run` answers, from the machine that keeps no permissions.
+    fn lean<'t>(&mut self, text: &'t [u8], steps: u32) -> Result<Outcome<'t>, Refusal>;
+
     /// A run of at most so many steps, of each text that the reader takes.
     fn trial<'t>(&mut self, text: &'t [u8], steps: u32) -> Outcome<'t>;
 
@@ -26,6 +29,10 @@ impl Answers for nuyardi::Station {
 
     fn run<'t>(&mut self, text: &'t [u8], steps: u32) -> Result<Outcome<'t>, Refusal> {
         nuyardi::Station::run(self, text, steps).map(Outcome::from)
+    }
+
+    fn lean<'t>(&mut self, text: &'t [u8], steps: u32) -> Result<Outcome<'t>, Refusal> {
+        nuyardi::Station::lean(self, text, steps).map(Outcome::from)
     }
 
     fn trial<'t>(&mut self, text: &'t [u8], steps: u32) -> Outcome<'t> {
@@ -61,6 +68,11 @@ impl Answers for Model {
 
     fn run<'t>(&mut self, text: &'t [u8], steps: u32) -> Result<Outcome<'t>, Refusal> {
         let (returned, outcome) = Model::ran(model::run_call, text, steps);
+        returned.refusal().map_or(Ok(outcome), Err)
+    }
+
+    fn lean<'t>(&mut self, text: &'t [u8], steps: u32) -> Result<Outcome<'t>, Refusal> {
+        let (returned, outcome) = Model::ran(model::lean_call, text, steps);
         returned.refusal().map_or(Ok(outcome), Err)
     }
 

@@ -11,13 +11,17 @@ use crate::show::{self, Paint};
 use crate::trace;
 use crate::{Answers, Model};
 
-/// A trial and a run: the same, but of a text that check refuses.
+/// A trial and a run: the same, but of a text that check refuses. On the lean
+/// machine a person reads the same.
 fn looked_into(text: &[u8], steps: u32) {
     let (tried, ran) = (
         looked_at(text, Asked::Trial(steps)),
         looked_at(text, Asked::Run(steps)),
     );
     assert_eq!(ran, if Model.check(text).is_ok() { tried } else { 0 });
+    assert_eq!(looked_at(text, Asked::Lean(steps)), ran);
+    let said = |asked| show::report(&Report::of(&mut Model, "a", text, asked), Paint(false));
+    assert_eq!(said(Asked::Lean(steps)), said(Asked::Run(steps)));
 }
 
 /// The steps taken.

@@ -101,13 +101,15 @@ fn variables(ran: &Ran) -> Json {
     Json::List(variables.collect())
 }
 
-/// What a run or a trial gives, beside check's answer: the same fields whether
-/// the text was run or not.
-fn ran(object: Json, report: &Report, allowed: u32) -> Json {
+/// What a run or a trial gives, beside check's answer and the machine: the same
+/// fields whether the text was run or not.
+fn ran(object: Json, (call, machine): (&str, &str), report: &Report, allowed: u32) -> Json {
     let ran = report.ran.as_ref();
     let (number, line) = answer(report);
     let none = || Json::List(Vec::new());
     let object = object
+        .with("call", call)
+        .with("machine", machine)
         .with("check", check(Json::object(), report))
         .with("finished", ran.is_some_and(|ran| ran.outcome.finished()))
         .with("number", number)
@@ -131,8 +133,9 @@ pub fn report(report: &Report) -> Json {
     let object = Json::object().with("file", report.file);
     let object = match report.asked {
         Asked::Check => check(object.with("call", "check"), report),
-        Asked::Run(allowed) => ran(object.with("call", "run"), report, allowed),
-        Asked::Trial(allowed) => ran(object.with("call", "trial"), report, allowed),
+        Asked::Run(allowed) => ran(object, ("run", "full"), report, allowed),
+        Asked::Lean(allowed) => ran(object, ("run", "lean"), report, allowed),
+        Asked::Trial(allowed) => ran(object, ("trial", "full"), report, allowed),
     };
     let (number, line) = answer(report);
     words(object, number).with_some("text", line_text(report.text, line))

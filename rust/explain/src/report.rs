@@ -14,6 +14,8 @@ pub enum Asked {
     Check,
     /// A run: of a text that check accepts.
     Run(u32),
+    /// The same on the lean machine.
+    Lean(u32),
     /// A trial: of each text that the reader takes.
     Trial(u32),
 }
@@ -54,12 +56,21 @@ impl<'a> Ran<'a> {
     fn of(text: &[u8], outcome: Outcome<'a>) -> Ran<'a> {
         let stopped = matches!(outcome.ending(), Ending::Stopped(_));
         let (number, steps) = (outcome.number(), outcome.steps());
-        let open = open_calls(text, steps).filter(|_| stopped);
+        // The model takes the steps again, which a run that finished need not wait for.
+        let open = stopped.then(|| open_calls(text, steps)).flatten();
         Ran {
-            cause: stop_cause(text, steps, number).filter(|_| stopped),
+            cause: stopped.then(|| stop_cause(text, steps, number)).flatten(),
             open: open.unwrap_or_default(),
             outcome,
         }
+    }
+}
+
+/// Check's refusal, or the run.
+fn ran(answered: Result<Outcome, Refusal>) -> (Option<Refusal>, Option<Outcome>) {
+    match answered {
+        Ok(outcome) => (None, Some(outcome)),
+        Err(refusal) => (Some(refusal), None),
     }
 }
 
@@ -71,10 +82,8 @@ fn answered<'t>(
 ) -> (Option<Refusal>, Option<Outcome<'t>>) {
     match asked {
         Asked::Check => (answers.check(text).err(), None),
-        Asked::Run(steps) => match answers.run(text, steps) {
-            Ok(outcome) => (None, Some(outcome)),
-            Err(refusal) => (Some(refusal), None),
-        },
+        Asked::Run(steps) => ran(answers.run(text, steps)),
+        Asked::Lean(steps) => ran(answers.lean(text, steps)),
         Asked::Trial(steps) => {
             let refusal = answers.check(text).err();
             let outcome = answers.trial(text, steps);

@@ -2,6 +2,7 @@
 
 use model::machine::{Locations, Machine, Step, Values};
 use model::names::Action;
+use model::number::Stop;
 
 /// A loop that a frame is in: how deep the frame is, the place of the `loop`, and
 /// the rounds that are done.
@@ -38,7 +39,7 @@ fn whole(machine: &Machine) -> Whole {
 impl Rounds {
     /// A step of the machine; a loop is open from its first arrival until its
     /// condition is false, or its frame is left.
-    pub fn step(&mut self, machine: &mut Machine) -> Result<Step, u32> {
+    pub fn step(&mut self, machine: &mut Machine) -> Result<Step, Stop> {
         let (depth, place) = (machine.frames.len(), machine.frame().next);
         match machine.statement().action {
             Action::Loop(_) if self.innermost(machine).is_none() => self.open.push(Open {

@@ -144,7 +144,7 @@ impl<'p, 'a> Writer<'p, 'a> {
             }
             join.push(atom);
             let shown = ends.iter().try_for_each(|end| end.show(&join));
-            if !framed(&join) || shown.is_err_and(|number| !self.keeps(number)) {
+            if !framed(&join) || shown.is_err_and(|reason| !self.keeps(reason)) {
                 join.pop();
             }
         }
@@ -194,7 +194,7 @@ impl<'p, 'a> Writer<'p, 'a> {
         invariant.extend(atom);
         let refused = state
             .show(invariant)
-            .is_err_and(|number| self.keeps(number));
+            .is_err_and(|reason| self.keeps(reason));
         if atom.is_some() && !(refused && framed(invariant)) {
             invariant.pop();
         }
@@ -237,7 +237,7 @@ impl<'p, 'a> Writer<'p, 'a> {
             let Ok(end) = self.after(end, &wrong) else {
                 continue;
             };
-            if end.show(invariant).is_err_and(|number| self.keeps(number)) {
+            if end.show(invariant).is_err_and(|reason| self.keeps(reason)) {
                 return Some(wrong);
             }
         }

@@ -8,7 +8,7 @@ use crate::names::{
     Action, Atom, Block, Call, Compute, Expr, Formula, Path, Program, Type, Var, FIRST_LOCAL,
     RESULT, VARS,
 };
-use crate::number;
+use crate::number::{self, Reason};
 use crate::text::{self, Operator, Share};
 
 /// What the lines of a program are like.
@@ -85,13 +85,12 @@ impl<'p, 'a> Writer<'p, 'a> {
         Some((Path { var, field, slot }, fields[slot].kind))
     }
 
-    /// The state after the statements, or the number that the first refused
-    /// one gives.
+    /// The state after the statements, or why the first refused one is.
     pub(super) fn after(
         &self,
         state: &State<'a>,
         actions: &[Action<'a>],
-    ) -> Result<State<'a>, u32> {
+    ) -> Result<State<'a>, Reason> {
         let mut state = state.clone();
         for action in actions {
             simple(self.program, self.block(), &mut state, action)?;
@@ -253,22 +252,22 @@ impl<'p, 'a> Writer<'p, 'a> {
                 actions.iter().for_each(|action| self.write(action));
                 *state = after;
             }
-            Err(number) if actions.len() == 1 && self.keeps(number) => self.write(&actions[0]),
+            Err(reason) if actions.len() == 1 && self.keeps(reason) => self.write(&actions[0]),
             _ => {}
         }
     }
 
     /// Is a refused statement kept all the same?
-    pub(super) fn keeps(&mut self, number: u32) -> bool {
+    pub(super) fn keeps(&mut self, reason: Reason) -> bool {
         let share = if self.block().header.is_none() {
             50
         } else {
             15
         };
-        if self.style.miss == Some(number) && self.rng.chance(share) {
+        if self.style.miss == Some(reason.number()) && self.rng.chance(share) {
             self.style.miss = None;
             return true;
         }
-        number >= number::UNRESOLVED && self.rng.chance(self.style.wild)
+        reason >= Reason::Unresolved && self.rng.chance(self.style.wild)
     }
 }

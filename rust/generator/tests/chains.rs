@@ -95,7 +95,7 @@ fn steps_of(text: &[u8], seen: &mut Steps) -> u32 {
         match machine.step() {
             Ok(Step::On) => {}
             Ok(Step::Done) => return DONE,
-            Err(number) => return number,
+            Err(stop) => return stop.number(),
         }
         seen.opened += u32::from(matches!(action, Action::Open(_)));
         seen.shut += u32::from(matches!(action, Action::Shut(_)));
@@ -231,7 +231,7 @@ impl Stops {
         }
         let line = matches!(word.as_str(), "open" | "shut");
         if ring > 0 || missing.is_some() || line {
-            *self.lines.entry((halt.number, word)).or_insert(0) += 1;
+            *self.lines.entry((halt.stop.number(), word)).or_insert(0) += 1;
         }
     }
 }

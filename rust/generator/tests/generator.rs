@@ -198,7 +198,7 @@ fn rounds(program: &Program, steps: u32) -> (u32, u32, u32) {
         let here = machine.frame().next;
         let looped = matches!(machine.statement().action, Action::Loop(_));
         match machine.step() {
-            Err(number) => return (number, inside, past),
+            Err(stop) => return (stop.number(), inside, past),
             Ok(Step::Done) => return (0, inside, past),
             Ok(Step::On) if looped => match machine.frame().next == here + 1 {
                 true => inside += 1,

@@ -1,5 +1,5 @@
-//! Times check, bound, run and trial of the library beside those of `rust/model`, in
-//! one go, and prints a table. Each round times a batch of the one, then of the
+//! Times check, bound, run, lean and trial of the library beside those of
+//! `rust/model`, in one go, and prints a table. Each round times a batch of the one, then of the
 //! other; the best round counts. The answers are compared too.
 //!
 //! `cargo run --release --example bench [MS] [PART]`: about MS milliseconds for
@@ -19,8 +19,9 @@ const ROUNDS: u32 = 40;
 type Ran<R> = fn(&[u8], &mut [u8], u32, &mut [u8]) -> R;
 
 /// The library's and the model's.
-const RUNS: [(&str, Ran<Returned>, Ran<u32>); 2] = [
+const RUNS: [(&str, Ran<Returned>, Ran<u32>); 3] = [
     ("run", calls::run, model::run_call),
+    ("lean", calls::lean, model::lean_call),
     ("trial", calls::trial, model::trial_call),
 ];
 

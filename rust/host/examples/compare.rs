@@ -32,14 +32,14 @@ fn main() {
         let (texts, seconds) = (counts[0].iter().sum::<u64>(), start.elapsed().as_secs());
         eprintln!("{texts} texts, {seconds} s");
     }
-    let [checks, runs, trials, bounds] = counts;
+    let [checks, runs, trials, bounds, leans] = counts;
     println!("{} texts, no difference", checks.iter().sum::<u64>());
     for number in 0..checks.len() {
-        let given = [checks, runs, trials, bounds].map(|counts| counts[number]);
-        let [check, run, trial, bound] = given;
-        if given != [0; 4] {
+        let given = [checks, runs, trials, bounds, leans].map(|counts| counts[number]);
+        let [check, run, trial, bound, lean] = given;
+        if given != [0; 5] {
             println!(
-                "{number:>2}: check {check:>9}, run {run:>9}, trial {trial:>9}, bound {bound:>9}"
+                "{number:>2}: check {check:>9}, run {run:>9}, trial {trial:>9}, bound {bound:>9}, lean {lean:>9}"
             );
         }
     }

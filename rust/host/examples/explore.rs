@@ -39,7 +39,7 @@ fn kind_of(text: &[u8], line: u32) -> Vec<u8> {
     fields.take(2).filter(known).flatten().copied().collect()
 }
 
-fn reached(text: &[u8], [check, _, trial, bound]: Answers) -> Reached {
+fn reached(text: &[u8], [check, _, trial, bound, _]: Answers) -> Reached {
     let [check, trial, bound] = [check, trial, bound].map(Returned::of);
     let [check_line, trial_line, bound_line] = [check, trial, bound].map(Returned::line);
     Reached {

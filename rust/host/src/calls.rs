@@ -1,8 +1,8 @@
 //! The C functions of libnuyardi.a, declared once, and over Rust slices.
 //!
-//! Most callers want [`crate::check`], [`crate::run`], [`crate::trial`] and
-//! [`crate::bound`]. The functions here are for those who lend areas of their own
-//! and want what comes back as it is.
+//! Most callers want [`crate::check`], [`crate::run`], [`crate::trial`],
+//! [`crate::lean`] and [`crate::bound`]. The functions here are for those who lend
+//! areas of their own and want what comes back as it is.
 
 use crate::Returned;
 
@@ -26,6 +26,15 @@ pub mod raw {
             results_len: usize,
         ) -> u32;
         pub fn station_trial(
+            text: *const u8,
+            text_len: usize,
+            work: *mut u8,
+            work_len: usize,
+            steps: u32,
+            results: *mut u8,
+            results_len: usize,
+        ) -> u32;
+        pub fn station_lean(
             text: *const u8,
             text_len: usize,
             work: *mut u8,
@@ -99,6 +108,24 @@ pub fn run(text: &[u8], work: &mut [u8], steps: u32, results: &mut [u8]) -> Retu
 /// ```
 pub fn trial(text: &[u8], work: &mut [u8], steps: u32, results: &mut [u8]) -> Returned {
     over(raw::station_trial, text, work, steps, results)
+}
+
+/// What [`run`] returns, and both areas as it leaves them, always; the machine
+/// below keeps no permissions, which an accepted text never lacks.
+///
+/// ```
+/// use nuyardi::calls::{lean, run};
+/// let mut work = vec![0; nuyardi::limits::WORK_BYTES];
+/// let text = b"main\nvar\tint\ta\nlet\ta\t7\nassert\teq\ta\t7\nend\n";
+/// for steps in [0, 2, 1_000] {
+///     let (mut one, mut other) = ([0xa5; nuyardi::limits::RESULTS_BYTES], [0x5a; 52]);
+///     let returned = lean(text, &mut work, steps, &mut one);
+///     assert_eq!(returned, run(text, &mut work, steps, &mut other));
+///     assert_eq!(one, other);
+/// }
+/// ```
+pub fn lean(text: &[u8], work: &mut [u8], steps: u32, results: &mut [u8]) -> Returned {
+    over(raw::station_lean, text, work, steps, results)
 }
 
 fn over(call: raw::Runs, text: &[u8], work: &mut [u8], steps: u32, results: &mut [u8]) -> Returned {

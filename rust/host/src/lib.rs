@@ -78,6 +78,19 @@ pub fn run(text: &[u8], steps: u32) -> Result<Outcome<'_, AcceptedEnding>, Refus
     Station::new().run(text, steps)
 }
 
+/// What [`run`] answers, on the lean machine; see [`Station::lean`].
+///
+/// ```
+/// let text = b"main\nvar\tint\ta\nlet\ta\t1\nend\n";
+/// assert_eq!(nuyardi::lean(text, 1_000), nuyardi::run(text, 1_000));
+/// assert_eq!(nuyardi::lean(text, 1_000)?.steps(), 2);
+/// # Ok::<(), nuyardi::Refusal>(())
+/// ```
+#[cfg(feature = "library")]
+pub fn lean(text: &[u8], steps: u32) -> Result<Outcome<'_, AcceptedEnding>, Refusal> {
+    Station::new().lean(text, steps)
+}
+
 /// Runs a text for at most so many steps, accepted or not; see [`Station::trial`].
 ///
 /// ```

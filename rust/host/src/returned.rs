@@ -44,8 +44,8 @@ impl Returned {
         Kind::of(self.number()).map(|kind| Refusal::new(kind, self.line()))
     }
 
-    /// How a run or a trial of the text ended, with what it left in the results
-    /// area; none for a number that neither returns.
+    /// How a call that runs the text ended, with what it left in the results
+    /// area; none for a number that none of them returns.
     ///
     /// ```
     /// use nuyardi::{limits, Returned};

@@ -103,6 +103,46 @@ impl<W: BorrowMut<[u8; WORK_BYTES]>> Station<W> {
         steps: u32,
     ) -> Result<Outcome<'t, AcceptedEnding>, Refusal> {
         let returned = calls::run(text, self.work.borrow_mut(), steps, &mut self.results);
+        self.ran(returned, text)
+    }
+
+    /// What [`Station::run`] answers, always, on a machine that keeps no permissions
+    /// and evaluates no assert, requires, ensures, join or invariant: an accepted
+    /// text never fails one, by a theorem. It is for long runs over many objects. In
+    /// a short one nearly all time goes into the check, which both make each time: a
+    /// text that is run often is then better checked once, and run by
+    /// [`Accepted::run`].
+    ///
+    /// ```
+    /// let mut station = nuyardi::Station::new();
+    /// let text = b"main\nvar\tint\ta\nlet\ta\t7\nassert\teq\ta\t7\nend\n";
+    /// let outcome = station.lean(text, 1_000)?;
+    /// assert_eq!((outcome.steps(), outcome.finished()), (3, true));
+    /// assert_eq!(station.lean(text, 1_000), station.run(text, 1_000));
+    ///
+    /// let refused = b"main\nassert\teq\t1\t2\nend\n";
+    /// assert_eq!(station.lean(refused, 10), station.run(refused, 10));
+    /// # Ok::<(), nuyardi::Refusal>(())
+    /// ```
+    ///
+    /// # Errors
+    ///
+    /// A text that check refuses is refused as by [`Station::check`].
+    pub fn lean<'t>(
+        &mut self,
+        text: &'t [u8],
+        steps: u32,
+    ) -> Result<Outcome<'t, AcceptedEnding>, Refusal> {
+        let returned = calls::lean(text, self.work.borrow_mut(), steps, &mut self.results);
+        self.ran(returned, text)
+    }
+
+    /// What run or lean returned for the text.
+    fn ran<'t>(
+        &self,
+        returned: Returned,
+        text: &'t [u8],
+    ) -> Result<Outcome<'t, AcceptedEnding>, Refusal> {
         match returned.refusal() {
             None => Ok(self.ended(AcceptedEnding::of, returned, text)),
             Some(refusal) => Err(refusal),
@@ -126,7 +166,7 @@ impl<W: BorrowMut<[u8; WORK_BYTES]>> Station<W> {
         self.ended(ending, returned, text)
     }
 
-    /// What a run or a trial of the text returned, as its ending.
+    /// What a call that runs the text returned, as its ending.
     fn ended<'t, E: Copy>(
         &self,
         ending: fn(u32) -> Option<E>,

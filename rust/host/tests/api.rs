@@ -98,6 +98,7 @@ fn generated_texts() {
                 let outcome = accepted.run(&mut station, steps);
                 assert_eq!(Ok(outcome), station.run(&text, steps));
                 assert_eq!(Outcome::from(outcome), station.trial(&text, steps));
+                assert_eq!(Ok(outcome), station.lean(&text, steps));
                 if let AcceptedEnding::Stopped(stop) = outcome.ending() {
                     accepted_stops.insert(stop);
                 }
@@ -105,6 +106,8 @@ fn generated_texts() {
             Err(refusal) => {
                 assert_eq!((refusal.number(), refusal.line()), (number, line));
                 assert_eq!(station.run(&text, steps), Err(refusal));
+                assert_eq!(station.lean(&text, steps), Err(refusal));
+                assert_eq!(nuyardi::lean(&text, steps), Err(refusal));
                 assert_eq!(Some(refusal.kind()), Kind::of(number));
                 let shown = refusal.to_string();
                 assert!(line == 0 || shown.starts_with(&format!("line {line}: ")));

@@ -226,7 +226,7 @@ fn stack() {
     let output = output.expect("the program");
     assert!(output.status.success());
     let printed = String::from_utf8_lossy(&output.stdout);
-    let mut most = [("check", 0), ("run", 0), ("trial", 0), ("bound", 0)];
+    let mut most = ["check", "run", "trial", "bound", "lean"].map(|call| (call, 0));
     let mut rows = 0;
     for line in printed.lines() {
         let mut words = line.split(' ').map(|word| word.parse::<usize>());

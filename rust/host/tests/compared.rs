@@ -6,7 +6,7 @@ mod cases;
 mod compare;
 
 use cases::Case;
-use compare::{compare_seeds, run_of, trial_of, Call, Comparer, Runs, BOUND, CHECK};
+use compare::{compare_seeds, lean_of, run_of, trial_of, Call, Comparer, Runs, BOUND, CHECK};
 use nuyardi::calls::raw;
 use nuyardi::limits::{BOUNDS_BYTES, RESULTS_BYTES, TEXT_BYTES, WORK_BYTES};
 use nuyardi::Returned;
@@ -23,10 +23,11 @@ fn call_of(case: &Case) -> Option<Call> {
             work,
             bounds: length(BOUNDS_BYTES),
         }),
-        (name @ ("run" | "trial"), Some(steps)) => Some(Call::Run {
+        (name @ ("run" | "trial" | "lean"), Some(steps)) => Some(Call::Run {
             by: match name {
                 "run" => Runs::Run,
-                _ => Runs::Trial,
+                "trial" => Runs::Trial,
+                _ => Runs::Lean,
             },
             work,
             steps,
@@ -72,6 +73,7 @@ fn lines_that_are_no_case() {
         "check/9 - = 1 0",
         "run/9/8 7 6d = 1 0",
         "trial 7 6d = 0",
+        "lean/9/8 7 6d = 1 0",
         "bound/9/8 6d = 1 0",
     ] {
         assert!(call(line).is_some(), "{line}");
@@ -84,6 +86,8 @@ fn lines_that_are_no_case() {
         "check 7 6d = 0 0",
         "run 6d = 0",
         "run x 6d = 0",
+        "lean 6d = 0",
+        "leen 7 6d = 0",
         "chek 6d = 0 0",
     ] {
         assert!(call(line).is_none(), "{line}");
@@ -107,7 +111,7 @@ fn every_example() {
         let runs = [0, 7, 1_000, 100_000];
         let runs = runs
             .into_iter()
-            .flat_map(|steps| [run_of(steps), trial_of(steps)]);
+            .flat_map(|steps| [run_of(steps), trial_of(steps), lean_of(steps)]);
         for call in runs.chain([CHECK, BOUND]) {
             if let Err(difference) = comparer.call(&text, call) {
                 panic!("{difference}");
@@ -130,7 +134,7 @@ fn lengths_and_single_bytes() {
         texts.push(filled.copied().take(length).collect());
     }
     for text in texts {
-        for call in [CHECK, run_of(10), trial_of(10), BOUND] {
+        for call in [CHECK, run_of(10), trial_of(10), lean_of(10), BOUND] {
             if let Err(difference) = comparer.call(&text, call) {
                 panic!("{difference}");
             }
@@ -146,12 +150,13 @@ fn a_million_texts() {
     } else {
         50_000
     };
-    let [checks, runs, trials, bounds] = match compare_seeds(0..seeds) {
+    let [checks, runs, trials, bounds, leans] = match compare_seeds(0..seeds) {
         Ok(counts) => counts,
         Err(difference) => panic!("{difference}"),
     };
     let texts: u64 = checks.iter().sum();
     println!("{texts} texts\ncheck {checks:?}\nrun {runs:?}\ntrial {trials:?}\nbound {bounds:?}");
+    assert_eq!(leans, runs, "lean's numbers are run's");
     assert_eq!(texts, seeds * (1 + compare::MUTATIONS as u64));
     assert!(cfg!(debug_assertions) || texts >= 1_000_000);
     for (call, counts, numbers) in [
@@ -178,7 +183,8 @@ fn a_null_text() {
     let checked = unsafe { raw::station_check(std::ptr::null(), 0, work.as_mut_ptr(), WORK_BYTES) };
     assert_eq!(Returned::of(checked).refusal(), unfinished);
     assert!(work.iter().all(|&byte| byte == 0));
-    for call in [raw::station_run as raw::Runs, raw::station_trial] {
+    let runs: [raw::Runs; 3] = [raw::station_run, raw::station_trial, raw::station_lean];
+    for call in runs {
         work.fill(0xa5);
         results.fill(0x5a);
         // SAFETY: as above.
@@ -221,7 +227,7 @@ fn two_threads_at_once() {
         let mut station = nuyardi::Station::new();
         let answer = |text| {
             let (ran, tried) = (station.run(text, 500), station.trial(text, 500));
-            (ran, tried, station.bound(text))
+            (ran, tried, station.lean(text, 500), station.bound(text))
         };
         texts
             .iter()

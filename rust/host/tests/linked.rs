@@ -95,7 +95,7 @@ fn declared() -> BTreeSet<String> {
 #[test]
 fn shared_library_exports_the_header() {
     let shared = shared_library(&folder("exports"));
-    assert_eq!(declared().len(), 4);
+    assert_eq!(declared().len(), 5);
     assert_eq!(names(&shared, "--defined-only"), declared());
     let memory = ["memset", "memcpy", "memmove", "memcmp", "bcmp"];
     let taken = names(&shared, "--undefined-only");
@@ -155,6 +155,49 @@ fn runs_the_worked_script(program: &Path, libraries: &str) {
     );
 }
 
+/// The program for boats: the worked script by its bound, the large catalogue with
+/// the steps that are given, and words that it does not take.
+fn runs_the_catalogue(program: &Path, libraries: &str) {
+    let said = |words: &[&str]| {
+        let mut command = Command::new(program);
+        let command = command.args(words).env("LD_LIBRARY_PATH", libraries);
+        let output = command.current_dir(root()).output().expect("the program");
+        let text = |bytes: &[u8]| String::from_utf8_lossy(bytes).into_owned();
+        (
+            text(&output.stdout),
+            text(&output.stderr),
+            output.status.code(),
+        )
+    };
+    let (worked, catalogue) = ("examples/worked.txt", "examples/catalogue.script");
+    let done = "number 0 at line 19 after 8 steps: 1 7 7 0 0 0 0 0 0 0 0 0\n";
+    assert_eq!(said(&[worked]), (done.to_string(), String::new(), Some(0)));
+    let done = "number 0 at line 45 after 178205 steps: 250 250 250 1 100 0 0 0 0 0 0 0\n";
+    let ended = said(&[catalogue, "1000000"]);
+    assert_eq!(ended, (done.to_string(), String::new(), Some(0)));
+    let (out, _, status) = said(&[catalogue, "99"]);
+    assert!(
+        out.starts_with("number 21 at line ") && status == Some(1),
+        "{out}"
+    );
+    let (out, _, status) = said(&["examples/lost.script"]);
+    assert_eq!(
+        (out.as_str(), status),
+        ("refused: number 12 at line 15\n", Some(1))
+    );
+    let (_, error, status) = said(&[catalogue]);
+    assert!(
+        error.contains("(number 15 at line 12)") && status == Some(2),
+        "{error}"
+    );
+    let no_steps = ["", "-1", "1x", " 1", "4294967296", "99999999999999999999"];
+    for words in no_steps.map(|steps| [worked, steps]) {
+        let (out, error, status) = said(&words);
+        assert_eq!((out.as_str(), status), ("", Some(2)), "{words:?}");
+        assert!(error.contains("0 to 4294967295"), "{error}");
+    }
+}
+
 /// The same of the program that explains.
 fn explains_the_worked_script(program: &Path, libraries: &str) {
     let mut command = Command::new(program);
@@ -179,7 +222,7 @@ fn by_pkg_config(prefix: &Path, name: &str, source: &str) -> Option<PathBuf> {
     let words = asked("pkg-config", &["--cflags", "--libs", described])?;
     let told = asked("pkg-config", &["--modversion", described])?;
     assert_eq!(told.trim(), text("VERSION").trim());
-    let program = prefix.join(name);
+    let program = prefix.join(format!("{name}-{source}").replace('.', "-"));
     let mut command = Command::new("gcc");
     command
         .args(["-std=c11", "-Wall", "-Wextra", "-Werror", "-o"])
@@ -203,6 +246,8 @@ fn linked_by_pkg_config() {
         };
         assert_eq!(is_shared(&program), shared, "{name}");
         runs_the_worked_script(&program, if shared { libraries } else { "" });
+        let boat = by_pkg_config(&prefix, name, "boat.c").expect("pkg-config");
+        runs_the_catalogue(&boat, if shared { libraries } else { "" });
     }
     if explanations().exists() {
         let program = by_pkg_config(&prefix, "nuyardi-explain", "explain.c");
@@ -239,6 +284,7 @@ fn linked_by_cmake() {
         assert_eq!(is_shared(&program), shared, "{name}");
         runs_the_worked_script(&program, "");
     }
+    runs_the_catalogue(&build.join("boat"), "");
     if explanations().exists() {
         explains_the_worked_script(&build.join("explain"), "");
     }

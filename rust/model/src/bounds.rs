@@ -1,7 +1,7 @@
 //! W6: steps known before the run, with the numbers 15 and 16.
 
 use crate::limits;
-use crate::number::{self, Refusal};
+use crate::number::{Reason, Refusal};
 use crate::program::{Action, Program, Statement};
 
 /// What a block, with all that it calls, can take at most.
@@ -79,14 +79,14 @@ fn most(program: &Program, block: usize, known: &mut [Option<Most>]) -> Most {
 /// What main can take at most. "It refuses ... with 15 ..., and then with 16 at
 /// line 0 if the bound passes 1,000,000."
 pub fn bounds(program: &Program) -> Result<Most, Refusal> {
-    let refuse = |number, line| Refusal { number, line };
+    let refuse = |reason, line| Refusal { reason, line };
     if let Some(line) = unbounded(program) {
-        return Err(refuse(number::UNBOUNDED, line));
+        return Err(refuse(Reason::Unbounded, line));
     }
     let main = program.blocks.len() - 1;
     let most = most(program, main, &mut vec![None; program.blocks.len()]);
     if most.steps > limits::BOUND {
-        return Err(refuse(number::BOUND_PASSED, 0));
+        return Err(refuse(Reason::BoundPassed, 0));
     }
     Ok(most)
 }

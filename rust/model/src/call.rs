@@ -68,6 +68,10 @@ impl Judged<'_> {
         run_over(work, results, || self.trial(steps))
     }
 
+    pub fn lean_call(&self, work: &mut [u8], steps: u32, results: &mut [u8]) -> u32 {
+        run_over(work, results, || self.lean(steps))
+    }
+
     pub fn bound_call(&self, work: &mut [u8], bounds: &mut [u8]) -> u32 {
         bound_over(work, bounds, || self.bound())
     }
@@ -84,6 +88,11 @@ pub fn run_call(text: &[u8], work: &mut [u8], steps: u32, results: &mut [u8]) ->
 /// W7: the "second call, trial".
 pub fn trial_call(text: &[u8], work: &mut [u8], steps: u32, results: &mut [u8]) -> u32 {
     run_over(work, results, || trial(text, steps))
+}
+
+/// W10: the call for the boats.
+pub fn lean_call(text: &[u8], work: &mut [u8], steps: u32, results: &mut [u8]) -> u32 {
+    run_over(work, results, || Judged::new(text).lean(steps))
 }
 
 pub fn bound_call(text: &[u8], work: &mut [u8], bounds: &mut [u8]) -> u32 {

@@ -6,7 +6,7 @@ use crate::formula::{Outcome, Reader};
 use crate::locations::Locations;
 use crate::machine::Machine;
 use crate::names::{Action, Atom, Expr, Kind, Open, Path, Type};
-use crate::number;
+use crate::number::{Reason, Stop};
 use crate::scope::Scope;
 use crate::showing::Left;
 use crate::state::{Permission, Rule, State, Term};
@@ -20,7 +20,7 @@ impl<'a> Scope<'_, 'a> {
         let (path, kind) = self.path(x, field)?;
         let (_, class) = self.find(x)?;
         let fault = Fault::NoLink(x, field, kind);
-        self.faults.note_if(kind != class, number::TYPE, fault);
+        self.faults.note_if(kind != class, Reason::Type, fault);
         Some((path, class))
     }
 
@@ -28,7 +28,7 @@ impl<'a> Scope<'_, 'a> {
     /// `result` or x."
     pub(crate) fn open(&mut self, y: Name<'a>, x: Name<'a>, field: Name<'a>) -> Option<Action<'a>> {
         self.faults
-            .note_if(y == x, number::ASSIGNED, Fault::Same(y));
+            .note_if(y == x, Reason::Assigned, Fault::Same(y));
         let target = self.assigned(y);
         let link = self.link(x, field);
         let ((y_var, y_kind), (path, class)) = (target?, link?);
@@ -70,7 +70,7 @@ impl<'a> State<'a> {
     /// Gives what is left of each entry.
     pub fn rest(&self, path: Path<'a>) -> Rule<Left> {
         let value = self.resolve(Expr::Path(path));
-        let value = value.map_err(|_| number::NO_PERMISSION)?;
+        let value = value.map_err(|_| Reason::NoPermission)?;
         let mut left = self.whole();
         self.show_permission(Share::Chain, value, path.field, &mut left)?;
         Ok(left)
@@ -107,7 +107,7 @@ impl Reader<'_> {
             if passed.contains(location) {
                 return Err(Halt {
                     ring: Some(location),
-                    ..Halt::at(number::FORMULA_FALSE, path)
+                    ..Halt::at(Stop::FormulaFalse, path)
                 });
             }
             self.needs(location, Share::Chain, path, taken)?;

@@ -4,7 +4,7 @@ use crate::names::{
     Action, Atom, Block, Branch, Call, Class, Expr, Loop, Path, Program, Statement, Type, Var,
     PARAM, RESULT, THIS,
 };
-use crate::number::{self, Refusal};
+use crate::number::{Reason, Refusal};
 use crate::state::Rule;
 use crate::text::Share;
 use crate::watch::{At, Purpose, Unwatched, Watch};
@@ -61,7 +61,7 @@ impl<'a> State<'a> {
         at.show(self, Purpose::Write, &[Atom::Permission(Share::Acc, path)]);
         let place = self
             .first_listed(Share::Acc, path)
-            .ok_or(number::NO_PERMISSION)?;
+            .ok_or(Reason::NoPermission)?;
         let Permission { var, field, .. } = self.permissions[place];
         let path = Term::Path(var, field);
         self.drop_terms(&[path]);
@@ -210,9 +210,9 @@ impl<'p, 'a, W: Watch<'a>> Checker<'p, 'a, W> {
         &self.program.statements[place]
     }
 
-    fn refusal(&self, place: usize) -> impl Fn(u32) -> Refusal {
+    fn refusal(&self, place: usize) -> impl Fn(Reason) -> Refusal {
         let line = self.statement(place).line;
-        move |number| Refusal { number, line }
+        move |reason| Refusal { reason, line }
     }
 
     fn at(&mut self, place: usize) -> At<'_, W> {

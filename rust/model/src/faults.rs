@@ -1,7 +1,7 @@
 //! Why a line has number 6, 7 or 9: an observation point of the names.
 
 use crate::names::{Kind, Type};
-use crate::number::{self, Refusal};
+use crate::number::{Reason, Refusal};
 use crate::text::{self, reserved, Name};
 
 /// What a name stands for, where the line looks it up.
@@ -77,27 +77,27 @@ pub struct Noted<'a> {
 /// first fault of that number and the place of its atom.
 #[derive(Debug, Default)]
 pub struct Faults<'a> {
-    pub lowest: Option<(u32, Fault<'a>, usize)>,
+    pub lowest: Option<(Reason, Fault<'a>, usize)>,
     /// The atom that is looked at.
     pub(crate) atom: usize,
 }
 
 impl<'a> Faults<'a> {
-    pub(crate) fn note(&mut self, number: u32, fault: Fault<'a>) {
-        if self.lowest.is_none_or(|(lowest, ..)| number < lowest) {
-            self.lowest = Some((number, fault, self.atom));
+    pub(crate) fn note(&mut self, reason: Reason, fault: Fault<'a>) {
+        if self.lowest.is_none_or(|(lowest, ..)| reason < lowest) {
+            self.lowest = Some((reason, fault, self.atom));
         }
     }
 
-    pub(crate) fn note_if(&mut self, holds: bool, number: u32, fault: Fault<'a>) {
+    pub(crate) fn note_if(&mut self, holds: bool, reason: Reason, fault: Fault<'a>) {
         if holds {
-            self.note(number, fault);
+            self.note(reason, fault);
         }
     }
 
     /// A name declared here is not reserved and not declared before.
     pub(crate) fn declared(&mut self, name: Name<'a>, twice: bool) {
-        self.note_if(reserved(name), number::NAME, Fault::Reserved(name));
-        self.note_if(twice, number::NAME, Fault::Twice(name));
+        self.note_if(reserved(name), Reason::Name, Fault::Reserved(name));
+        self.note_if(twice, Reason::Name, Fault::Twice(name));
     }
 }

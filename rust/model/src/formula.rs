@@ -4,11 +4,11 @@
 use crate::locations::{Location, Locations};
 use crate::machine::{Object, Values};
 use crate::names::{Atom, Expr, Path};
-use crate::number;
+use crate::number::Stop;
 use crate::text::Share;
 use crate::watch::{Halt, Missing, Tested};
 
-/// A step that cannot be done stops with a number.
+/// A step that cannot be done stops.
 pub(crate) type Outcome<'a, T> = Result<T, Halt<'a>>;
 
 /// A formula's reader: the values it sees and the locations it may read.
@@ -22,8 +22,7 @@ pub(crate) struct Reader<'m> {
 impl Reader<'_> {
     /// The location of `x.f`: null followed is 25.
     pub fn place<'a>(&self, path: Path<'a>) -> Outcome<'a, Location> {
-        location(self.objects, self.values, path)
-            .ok_or_else(|| Halt::at(number::NULL_FOLLOWED, path))
+        location(self.objects, self.values, path).ok_or_else(|| Halt::at(Stop::NullFollowed, path))
     }
 
     /// The location of `x.f`, of which the share is held beside what is taken.
@@ -58,7 +57,7 @@ impl Reader<'_> {
                 held,
                 taken,
             }),
-            ..Halt::at(number::PERMISSION_MISSING, path)
+            ..Halt::at(Stop::PermissionMissing, path)
         })
     }
 
@@ -111,7 +110,7 @@ impl Reader<'_> {
         if holds {
             Ok(())
         } else {
-            Err(Halt::of(number::FORMULA_FALSE))
+            Err(Halt::of(Stop::FormulaFalse))
         }
     }
 }

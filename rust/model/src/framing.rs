@@ -4,7 +4,7 @@
 //! number 10, `read x f` serves as `acc x f` does." A chain (W9) is no listed path
 //! and serves none. It goes by the two names as written.
 
-use crate::number::{self, Refusal};
+use crate::number::{Reason, Refusal};
 use crate::text::{Atom, Expr, Line, Name};
 
 /// A path that is read without its permission: the place of its atom, x and f.
@@ -55,7 +55,7 @@ pub fn unframed_in<'a>(line: &Line<'a>) -> Option<Unframed<'a>> {
 pub fn frame(lines: &[Line]) -> Result<(), Refusal> {
     match lines.iter().position(|line| unframed_in(line).is_some()) {
         Some(index) => Err(Refusal {
-            number: number::UNFRAMED,
+            reason: Reason::Unframed,
             line: index as u32 + 1,
         }),
         None => Ok(()),

@@ -13,6 +13,7 @@ pub mod faults;
 pub mod form;
 mod formula;
 pub mod framing;
+mod lean;
 pub mod limits;
 pub mod locations;
 pub mod machine;
@@ -29,7 +30,7 @@ pub mod state;
 pub mod text;
 pub mod watch;
 
-pub use call::{bound_call, check_call, run_call, trial_call};
+pub use call::{bound_call, check_call, lean_call, run_call, trial_call};
 pub use machine::Run;
 pub use number::Refusal;
 pub use print::printed;
@@ -94,7 +95,7 @@ impl<'a> Judged<'a> {
     pub fn check(&self) -> (u32, u32) {
         match self.accepted() {
             Ok(_) => (number::DONE, 0),
-            Err(Refusal { number, line }) => (number, line),
+            Err(refusal) => (refusal.number(), refusal.line),
         }
     }
 
@@ -108,9 +109,9 @@ impl<'a> Judged<'a> {
                 bound: most.steps,
                 frames: most.frames,
             },
-            Err(Refusal { number, line }) => Bounds {
-                number,
-                line,
+            Err(refusal) => Bounds {
+                number: refusal.number(),
+                line: refusal.line,
                 bound: 0,
                 frames: 0,
             },
@@ -120,13 +121,20 @@ impl<'a> Judged<'a> {
     /// W7: "By default run now checks first, and a text that the check refuses gets
     /// the check's number and line, with zeros in results."
     pub fn run(&self, steps: u32) -> Run {
-        run_or_refused(self.accepted(), steps)
+        run_or_refused(machine::run, self.accepted(), steps)
     }
 
     /// W7: "trial, which is the old run", of document 01: it "works on each text
     /// that the reader takes, accepted or not".
     pub fn trial(&self, steps: u32) -> Run {
-        run_or_refused(self.read(), steps)
+        run_or_refused(machine::run, self.read(), steps)
+    }
+
+    /// W10: "It checks first, as run does, and gives a refused text the same number,
+    /// line and results"; an accepted one "the number, line, steps and values of
+    /// run".
+    pub fn lean(&self, steps: u32) -> Run {
+        run_or_refused(lean::run, self.accepted(), steps)
     }
 }
 
@@ -147,16 +155,27 @@ pub fn run(text: &[u8], steps: u32) -> Run {
 
 /// Its run without the tests after 9 (W7).
 pub fn trial(text: &[u8], steps: u32) -> Run {
-    run_or_refused(read(text).as_ref().map_err(|&refusal| refusal), steps)
+    let program = read(text);
+    let program = program.as_ref().map_err(|&refusal| refusal);
+    run_or_refused(machine::run, program, steps)
 }
 
-/// The run of a program; for a refused text steps and values are zeros.
-fn run_or_refused(program: Result<&names::Program, Refusal>, steps: u32) -> Run {
+/// Its run on the lean machine (W10).
+pub fn lean(text: &[u8], steps: u32) -> Run {
+    Judged::new(text).lean(steps)
+}
+
+/// The run of a program by a machine; for a refused text steps and values are zeros.
+fn run_or_refused(
+    machine: fn(&names::Program, u32) -> Run,
+    program: Result<&names::Program, Refusal>,
+    steps: u32,
+) -> Run {
     match program {
-        Ok(program) => machine::run(program, steps),
-        Err(Refusal { number, line }) => Run {
-            number,
-            line,
+        Ok(program) => machine(program, steps),
+        Err(refusal) => Run {
+            number: refusal.number(),
+            line: refusal.line,
             steps: 0,
             values: [0; limits::LOCALS],
         },

@@ -6,7 +6,7 @@ use crate::names::{
     Action, Atom, Block, Call, Compute, Loop, Path, Program, Statement, Var, FIRST_LOCAL, PARAM,
     RESULT, THIS, VARS,
 };
-use crate::number;
+use crate::number::{self, Stop};
 use crate::text::Share;
 use crate::watch::{Halt, Tested};
 
@@ -127,10 +127,10 @@ impl<'p, 'a> Machine<'p, 'a> {
 
     /// "Each statement line is one step". "A stopped step is not counted", and
     /// it changes nothing.
-    pub fn step(&mut self) -> Result<Step, u32> {
+    pub fn step(&mut self) -> Result<Step, Stop> {
         self.tried().map_err(|halt| {
             self.halt = Some(halt);
-            halt.number
+            halt.stop
         })
     }
 
@@ -220,7 +220,7 @@ impl<'p, 'a> Machine<'p, 'a> {
         let values = &self.frame().values;
         let (y, z) = (values[compute.y], values[compute.z]);
         let value = compute.operator.value(y, z);
-        self.assign(compute.x, value.ok_or(Halt::of(number::OVERFLOW))?);
+        self.assign(compute.x, value.ok_or(Halt::of(Stop::Overflow))?);
         Ok(())
     }
 
@@ -237,7 +237,7 @@ impl<'p, 'a> Machine<'p, 'a> {
         let fields = self.program.classes[class].fields.len();
         let first = self.heap.len();
         if self.objects.len() == limits::OBJECTS || first + fields > limits::HEAP_FIELDS {
-            return Err(Halt::of(number::HEAP_FULL));
+            return Err(Halt::of(Stop::HeapFull));
         }
         self.objects.push(Object {
             first,
@@ -258,7 +258,7 @@ impl<'p, 'a> Machine<'p, 'a> {
     fn call(&mut self, call: Call) -> Outcome<'a, ()> {
         let caller = self.frame();
         if caller.values[call.y] == 0 {
-            return Err(Halt::of(number::NULL_FOLLOWED));
+            return Err(Halt::of(Stop::NullFollowed));
         }
         let method = &self.program.blocks[call.method];
         let values = callee_values(&caller.values, call);
@@ -268,7 +268,7 @@ impl<'p, 'a> Machine<'p, 'a> {
         };
         let footprint = reader.formula(&method.requires, Tested::Requires)?;
         if self.frames.len() == limits::FRAMES {
-            return Err(Halt::of(number::FRAMES_FULL));
+            return Err(Halt::of(Stop::FramesFull));
         }
         self.frame_mut().held.remove_all(&footprint);
         self.frames.push(Frame {
@@ -318,7 +318,7 @@ impl<'p, 'a> Machine<'p, 'a> {
     }
 }
 
-/// What run, or trial, returns and what it leaves in results.
+/// What run, trial or lean returns and what it leaves in results.
 #[derive(Clone, Copy, Debug, PartialEq, Eq)]
 pub struct Run {
     pub number: u32,
@@ -338,7 +338,7 @@ pub fn run(program: &Program, allowed: u32) -> Run {
             match machine.step() {
                 Ok(Step::On) => continue,
                 Ok(Step::Done) => number::DONE,
-                Err(number) => number,
+                Err(stop) => stop.number(),
             }
         };
         return Run {

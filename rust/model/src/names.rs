@@ -2,7 +2,7 @@
 //! comes of it.
 
 use crate::faults::{Fault, Faults, Noted, Role};
-use crate::number::{self, Refusal};
+use crate::number::{Reason, Refusal};
 use crate::scope::{Scope, View};
 use crate::text::{self, reserved, Line, Name};
 
@@ -30,7 +30,7 @@ impl<'a> Resolver<'a> {
             true => Fault::Reserved(name),
             false => Fault::Undeclared(name, Role::Class),
         };
-        faults.note_if(!known, number::NAME, fault);
+        faults.note_if(!known, Reason::Name, fault);
     }
 
     fn declaration(&mut self, line: &Line<'a>) -> Faults<'a> {
@@ -184,8 +184,8 @@ pub fn resolve_noted<'a>(lines: &[Line<'a>]) -> Result<Program<'a>, Box<Noted<'a
     for (index, line) in lines.iter().enumerate() {
         let at = index as u32 + 1;
         let faults = resolver.line(at, line);
-        if let Some((number, fault, atom)) = faults.lowest {
-            let refusal = Refusal { number, line: at };
+        if let Some((reason, fault, atom)) = faults.lowest {
+            let refusal = Refusal { reason, line: at };
             return Err(Box::new(Noted {
                 refusal,
                 fault,

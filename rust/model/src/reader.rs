@@ -2,7 +2,7 @@
 //! the numbers 2, 3, 4, 5 and 8.
 
 use crate::limits;
-use crate::number::{self, Refusal};
+use crate::number::{Reason, Refusal};
 use crate::text::{line, Line};
 
 /// The two kinds of block.
@@ -213,29 +213,29 @@ pub fn lines(text: &[u8]) -> Result<Vec<Line<'_>>, Refusal> {
 /// The same, with a fresh reader that the caller looks at afterwards: for 4 it
 /// stands before the refused line, for 5 after it, for 8 at the end.
 pub fn lines_by<'a>(reader: &mut Reader, text: &'a [u8]) -> Result<Vec<Line<'a>>, Refusal> {
-    let refuse = |number, line: usize| Refusal {
-        number,
+    let refuse = |reason, line: usize| Refusal {
+        reason,
         line: line as u32,
     };
     if text.len() > limits::TEXT_BYTES {
-        return Err(refuse(number::TOO_LONG, 0));
+        return Err(refuse(Reason::TooLong, 0));
     }
     let mut lines = Vec::new();
     for bytes in text.split_inclusive(|&byte| byte == b'\n') {
         let at = lines.len() + 1;
         if !bytes.ends_with(b"\n") || !bytes.iter().all(allowed_byte) {
-            return Err(refuse(number::BYTE, at));
+            return Err(refuse(Reason::Byte, at));
         }
         let line = line(&bytes[..bytes.len() - 1])
             .filter(|line| reader.step(line))
-            .ok_or(refuse(number::FORM, at))?;
+            .ok_or(refuse(Reason::Form, at))?;
         if !reader.count(&line) {
-            return Err(refuse(number::LIMIT, at));
+            return Err(refuse(Reason::Limit, at));
         }
         lines.push(line);
     }
     if reader.place != Place::Done {
-        return Err(refuse(number::UNFINISHED, lines.len()));
+        return Err(refuse(Reason::Unfinished, lines.len()));
     }
     Ok(lines)
 }

@@ -2,7 +2,7 @@
 //! statements.
 
 use crate::faults::{Fault, Faults, Role, Sides};
-use crate::number;
+use crate::number::Reason;
 use crate::program::*;
 use crate::text::{self, reserved, Line, Name, Operator, Share};
 
@@ -59,7 +59,7 @@ impl<'p, 'a> Scope<'p, 'a> {
     fn var(&mut self, name: Name<'a>) -> Option<(Var, Type<'a>)> {
         let found = self.find(name);
         let fault = Fault::Undeclared(name, Role::Variable);
-        self.faults.note_if(found.is_none(), number::NAME, fault);
+        self.faults.note_if(found.is_none(), Reason::Name, fault);
         found
     }
 
@@ -67,15 +67,15 @@ impl<'p, 'a> Scope<'p, 'a> {
     /// is 7." A reserved word is 6 whatever x is.
     pub(crate) fn path(&mut self, x: Name<'a>, field: Name<'a>) -> Option<(Path<'a>, Type<'a>)> {
         self.faults
-            .note_if(reserved(field), number::NAME, Fault::Reserved(field));
+            .note_if(reserved(field), Reason::Name, Fault::Reserved(field));
         let (var, kind) = self.var(x)?;
         let Type::Class(class) = kind else {
-            self.faults.note(number::TYPE, Fault::NoObject(x));
+            self.faults.note(Reason::Type, Fault::NoObject(x));
             return None;
         };
         let found = self.program.field(class, field);
         let fault = Fault::Undeclared(field, Role::Field(class));
-        self.faults.note_if(found.is_none(), number::NAME, fault);
+        self.faults.note_if(found.is_none(), Reason::Name, fault);
         let (slot, kind) = found?;
         Some((Path { var, field, slot }, kind))
     }
@@ -108,7 +108,7 @@ impl<'p, 'a> Scope<'p, 'a> {
             (Kind::Null, Kind::Null) => true,
         };
         let fault = Fault::Mismatch { sides, left, right };
-        self.faults.note_if(!fit, number::TYPE, fault);
+        self.faults.note_if(!fit, Reason::Type, fault);
     }
 
     fn sides(
@@ -157,7 +157,7 @@ impl<'p, 'a> Scope<'p, 'a> {
         let found = self.var(name)?;
         let local = (FIRST_LOCAL..RESULT).contains(&found.0);
         self.faults
-            .note_if(!local, number::ASSIGNED, Fault::Assigned(name));
+            .note_if(!local, Reason::Assigned, Fault::Assigned(name));
         Some(found)
     }
 
@@ -184,7 +184,7 @@ impl<'p, 'a> Scope<'p, 'a> {
     fn int(&mut self, name: Name<'a>, found: Option<(Var, Type<'a>)>) -> Option<Var> {
         let (var, kind) = found?;
         self.faults
-            .note_if(kind != Type::Int, number::TYPE, Fault::NoInt(name));
+            .note_if(kind != Type::Int, Reason::Type, Fault::NoInt(name));
         Some(var)
     }
 
@@ -215,7 +215,7 @@ impl<'p, 'a> Scope<'p, 'a> {
             true => Fault::Reserved(name),
             false => Fault::Undeclared(name, Role::Class),
         };
-        self.faults.note_if(class.is_none(), number::NAME, fault);
+        self.faults.note_if(class.is_none(), Reason::Name, fault);
         let ((var, kind), class) = (var?, class?);
         let fault = Fault::Mismatch {
             sides: Sides::New,
@@ -223,13 +223,13 @@ impl<'p, 'a> Scope<'p, 'a> {
             right: (text::Expr::Var(name), Kind::Of(Type::Class(name))),
         };
         let fits = kind == Type::Class(name);
-        self.faults.note_if(!fits, number::TYPE, fault);
+        self.faults.note_if(!fits, Reason::Type, fault);
         Some(Action::New(var, class))
     }
 
     fn call(&mut self, x: Name<'a>, y: Name<'a>, m: Name<'a>, z: Name<'a>) -> Option<Action<'a>> {
         self.faults
-            .note_if(x == y || x == z, number::ASSIGNED, Fault::Same(x));
+            .note_if(x == y || x == z, Reason::Assigned, Fault::Same(x));
         let target = self.assigned(x);
         let method = self.receiver(y, m);
         let argument = self.var(z);
@@ -253,15 +253,15 @@ impl<'p, 'a> Scope<'p, 'a> {
     /// "... a method in y's [class]: absent there is 6, an int ... y is 7."
     fn receiver(&mut self, y: Name<'a>, m: Name<'a>) -> Option<(Var, usize, Header<'a>)> {
         self.faults
-            .note_if(reserved(m), number::NAME, Fault::Reserved(m));
+            .note_if(reserved(m), Reason::Name, Fault::Reserved(m));
         let (var, kind) = self.var(y)?;
         let Type::Class(class) = kind else {
-            self.faults.note(number::TYPE, Fault::NoObject(y));
+            self.faults.note(Reason::Type, Fault::NoObject(y));
             return None;
         };
         let found = self.program.method(class, m);
         let fault = Fault::Undeclared(m, Role::Method(class));
-        self.faults.note_if(found.is_none(), number::NAME, fault);
+        self.faults.note_if(found.is_none(), Reason::Name, fault);
         let (block, header) = found?;
         Some((var, block, header))
     }

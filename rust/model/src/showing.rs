@@ -2,7 +2,7 @@
 
 use crate::limits;
 use crate::names::{Atom, Expr};
-use crate::number;
+use crate::number::Reason;
 use crate::state::{Permission, Rule, State, Term};
 use crate::text::{Name, Share};
 
@@ -16,7 +16,7 @@ impl<'a> State<'a> {
         if self.equals(left).contains(&right) {
             Ok(())
         } else {
-            Err(number::NOT_SHOWN)
+            Err(Reason::NotShown)
         }
     }
 
@@ -32,7 +32,7 @@ impl<'a> State<'a> {
         if shown {
             Ok(())
         } else {
-            Err(number::NOT_SHOWN)
+            Err(Reason::NotShown)
         }
     }
 
@@ -86,7 +86,7 @@ impl<'a> State<'a> {
         match shown {
             Some((place, rest)) => left[place] = rest,
             None if share == Share::Chain && self.equals(of).contains(&Term::Null) => {}
-            None => return Err(number::NO_PERMISSION),
+            None => return Err(Reason::NoPermission),
         }
         Ok(())
     }

@@ -3,7 +3,7 @@
 
 use crate::limits;
 use crate::names::{Atom, Expr, Path, Var, VARS};
-use crate::number;
+use crate::number::Reason;
 use crate::text::{Name, Share};
 
 /// What facts are over: "variables, constants and listed paths". A path is a
@@ -72,8 +72,8 @@ pub struct State<'a> {
     pub facts: Vec<Fact<'a>>,
 }
 
-/// The rules give a number; the line is added by who knows it.
-pub type Rule<T> = Result<T, u32>;
+/// The rules give a reason, of the numbers 11 to 14; the line is added by who knows it.
+pub type Rule<T> = Result<T, Reason>;
 
 impl<'a> State<'a> {
     /// All terms ~ the given one, itself first. "Two terms are equal (~) if
@@ -112,7 +112,7 @@ impl<'a> State<'a> {
                 .listed(path)
                 .next()
                 .and_then(|place| self.permissions[place].path())
-                .ok_or(number::UNRESOLVED),
+                .ok_or(Reason::Unresolved),
         }
     }
 
@@ -228,7 +228,7 @@ impl<'a> State<'a> {
 
     pub(crate) fn add_fact(&mut self, equal: bool, left: Term<'a>, right: Term<'a>) -> Rule<()> {
         if self.facts.len() == limits::FACTS {
-            return Err(number::STATE_FULL);
+            return Err(Reason::StateFull);
         }
         self.facts.push(Fact { equal, left, right });
         Ok(())
@@ -236,7 +236,7 @@ impl<'a> State<'a> {
 
     pub(crate) fn add_permission(&mut self, permission: Permission<'a>) -> Rule<()> {
         if self.permissions.len() == limits::PERMISSIONS {
-            return Err(number::STATE_FULL);
+            return Err(Reason::StateFull);
         }
         self.permissions.push(permission);
         Ok(())

@@ -6,7 +6,7 @@ use crate::checker::{check_block_watched, check_watched, State};
 use crate::framing::frame;
 use crate::locations::Location;
 use crate::names::{Atom, Expr, Path, Program};
-use crate::number::Refusal;
+use crate::number::{Refusal, Stop};
 use crate::text::{Line, Share};
 
 /// What a rule asks of the state.
@@ -225,7 +225,7 @@ pub struct Missing {
 /// What stopped a step.
 #[derive(Clone, Copy, Debug, PartialEq, Eq)]
 pub struct Halt<'a> {
-    pub number: u32,
+    pub stop: Stop,
     pub tested: Tested,
     /// The atom of the formula that was tested: its place from 0.
     pub atom: Option<usize>,
@@ -238,9 +238,9 @@ pub struct Halt<'a> {
 }
 
 impl<'a> Halt<'a> {
-    pub(crate) fn of(number: u32) -> Halt<'a> {
+    pub(crate) fn of(stop: Stop) -> Halt<'a> {
         Halt {
-            number,
+            stop,
             tested: Tested::Nothing,
             atom: None,
             path: None,
@@ -249,10 +249,10 @@ impl<'a> Halt<'a> {
         }
     }
 
-    pub(crate) fn at(number: u32, path: Path<'a>) -> Halt<'a> {
+    pub(crate) fn at(stop: Stop, path: Path<'a>) -> Halt<'a> {
         Halt {
             path: Some(path),
-            ..Halt::of(number)
+            ..Halt::of(stop)
         }
     }
 }

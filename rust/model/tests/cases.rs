@@ -4,7 +4,7 @@
 //! before W7 is trial now.
 
 use model::limits::{BOUND_BYTES, RESULT_BYTES, WORK_BYTES};
-use model::{bound_call, check_call, printed, run_call, trial_call};
+use model::{bound_call, check_call, lean_call, printed, run_call, trial_call};
 use std::collections::HashMap;
 
 /// The cases of document 01.
@@ -38,6 +38,7 @@ const SINCE_W7: &[Level] = &[
     ("W7", include_str!("cases/w7.tsv"), 186, &[]),
     ("W8", include_str!("cases/w8.tsv"), 164, &[]),
     ("W9", include_str!("cases/w9.tsv"), 227, &[]),
+    ("W10", include_str!("cases/w10.tsv"), 186, &[]),
 ];
 
 /// Which call a file's `run` is.
@@ -77,14 +78,14 @@ fn parse(left: &str, runs: Runs) -> Case<'_> {
     };
     let mut length = |usual| call.next().map_or(usual, |n| n.parse().expect("a length"));
     let usual = match name {
-        "run" | "trial" => RESULT_BYTES,
+        "run" | "trial" | "lean" => RESULT_BYTES,
         "bound" => BOUND_BYTES,
         _ => 0,
     };
     let (work, second) = (length(WORK_BYTES), length(usual));
     let (steps, hex) = match (name, &fields[1..]) {
         ("check" | "bound" | "program", &[hex]) => (0, hex),
-        ("run" | "trial", &[steps, hex]) => (steps.parse().expect("steps"), hex),
+        ("run" | "trial" | "lean", &[steps, hex]) => (steps.parse().expect("steps"), hex),
         _ => panic!("no call: {left}"),
     };
     Case {
@@ -124,6 +125,7 @@ fn answer(case: &Case) -> String {
         "check" => check_call(&case.text, &mut work),
         "bound" => bound_call(&case.text, &mut work, &mut second),
         "trial" => trial_call(&case.text, &mut work, case.steps, &mut second),
+        "lean" => lean_call(&case.text, &mut work, case.steps, &mut second),
         _ => run_call(&case.text, &mut work, case.steps, &mut second),
     };
     let mut answer = vec![i64::from(returned / 65_536), i64::from(returned % 65_536)];

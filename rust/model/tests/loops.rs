@@ -310,7 +310,7 @@ fn a_stop_in_an_invariant_is_told_apart() {
         let mut machine = Machine::new(&program);
         while machine.step().is_ok() {}
         let halt = machine.halt.expect("a stop");
-        (halt.number, halt.tested, halt.atom)
+        (halt.stop.number(), halt.tested, halt.atom)
     };
     let invariant = halt("loop eq a b eq 1 1 eq a 1\nagain");
     assert_eq!(invariant, (26, Tested::Invariant, Some(1)));
@@ -326,7 +326,7 @@ fn a_watch_sees_the_states_of_a_loop() {
     let program = read(&bytes).expect("a program");
     let record = Record::of(&lines, &program).expect("number 10 does not come up");
     let refusal = record.refusal.expect("13 at the assert");
-    assert_eq!((refusal.number, refusal.line), (13, 13));
+    assert_eq!((refusal.number(), refusal.line), (13, 13));
     let facts = |at: usize| {
         let seen = &record.seen[at];
         let count = |state: &Option<model::checker::State>| {

@@ -13,12 +13,12 @@ fn texts() -> impl Iterator<Item = Vec<u8>> {
 }
 
 /// What the state says to the question.
-fn answer(asked: &Asked) -> Result<(), u32> {
+fn answer(asked: &Asked) -> Result<(), Reason> {
     match (asked.read, asked.rest) {
         // W9: what `shut` fails to show is 12, "an unlisted `x.f` too".
         (Some(expr), _) if asked.purpose == Purpose::Shut => {
             let found = asked.state.resolve(expr);
-            found.map(drop).map_err(|_| NO_PERMISSION)
+            found.map(drop).map_err(|_| Reason::NoPermission)
         }
         (Some(expr), _) => asked.state.resolve(expr).map(drop),
         (None, Some(path)) => asked.state.rest(path).map(drop),
@@ -45,7 +45,7 @@ fn a_refusal_by_a_rule_is_that_of_the_last_question() {
         };
         let refusal = record
             .refusal
-            .map_or((DONE, 0), |found| (found.number, found.line));
+            .map_or((DONE, 0), |found| (found.number(), found.line));
         assert_eq!(refusal, (number, line));
         seen[number as usize] += 1;
         if !(UNRESOLVED..=NOT_SHOWN).contains(&number) {
@@ -58,7 +58,7 @@ fn a_refusal_by_a_rule_is_that_of_the_last_question() {
             at_return += 1;
             assert_eq!(asked.purpose, Purpose::Ensures);
         }
-        assert_eq!(answer(&asked), Err(number));
+        assert_eq!(answer(&asked).map_err(Reason::number), Err(number));
     }
     assert!(at_return > 10, "{at_return} refused at a return");
     let enough = [DONE, UNRESOLVED, NO_PERMISSION, NOT_SHOWN, STATE_FULL];
@@ -86,7 +86,7 @@ fn a_fault_is_of_its_number() {
             other => panic!("{other:?}"),
         };
         assert_eq!((number, noted.refusal.line), check(&text));
-        assert_eq!(number, noted.refusal.number);
+        assert_eq!(number, noted.refusal.number());
         seen[number as usize] += 1;
     }
     assert!(
@@ -108,24 +108,24 @@ fn a_halt_is_of_its_stop() {
             match machine.step() {
                 Ok(Step::On) if machine.steps < 300 => {}
                 Ok(_) => break None,
-                Err(number) => break Some(number),
+                Err(stop) => break Some(stop),
             }
         };
-        assert_eq!(machine.halt.map(|halt| halt.number), stop);
+        assert_eq!(machine.halt.map(|halt| halt.stop), stop);
         let Some(halt) = machine.halt else { continue };
-        seen[halt.number as usize] += 1;
+        seen[halt.stop.number() as usize] += 1;
         assert_eq!(halt.atom.is_some(), halt.tested != Tested::Nothing);
         if matches!(machine.statement().action, Action::Return(_)) {
             at_return += 1;
             assert_eq!(halt.tested, Tested::Ensures);
         }
-        match halt.number {
+        match halt.stop.number() {
             FORMULA_FALSE => assert!(halt.atom.is_some() || halt.ring.is_some()),
             PERMISSION_MISSING => assert!(halt.path.is_some()),
             _ => {}
         }
         let missing = halt.missing.is_some();
-        assert_eq!(missing, halt.number == PERMISSION_MISSING);
+        assert_eq!(missing, halt.stop.number() == PERMISSION_MISSING);
     }
     assert!(at_return > 10, "{at_return} stopped at a return");
     let all = [

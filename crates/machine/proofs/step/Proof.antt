@@ -101,7 +101,7 @@ returns c =
     let at-kind-at = c .before .before .before .before .before .kind-at in
     let at-match = c .before .before .before .before .match in
     let at-set-step = c .before .before .set-step in
-    Stepping.sets (start .pre .0) _ (sym (at-kind-at .ensures) ∙ at-match .keys1) (at-set-step .ensures)
+    Stepping.does-as (Stepping.set-is _ (sym (at-kind-at .ensures) ∙ at-match .keys1)) (at-set-step .ensures)
 
 same-length-2 : tie.Need-same-length-2
 same-length-2 c = search needs
@@ -113,7 +113,7 @@ returns-2 c =
     let at-kind-at = c .before .before .before .before .before .kind-at in
     let at-match = c .before .before .before .before .match in
     let at-let-step = c .before .before .let-step in
-    Stepping.lets (start .pre .0) _ (sym (at-kind-at .ensures) ∙ at-match .keys2) (at-let-step .ensures)
+    Stepping.does-as (Stepping.let-is _ (sym (at-kind-at .ensures) ∙ at-match .keys2)) (at-let-step .ensures)
 
 same-length-3 : tie.Need-same-length-3
 same-length-3 c = search needs
@@ -125,7 +125,7 @@ returns-3 c =
     let at-kind-at = c .before .before .before .before .before .kind-at in
     let at-match = c .before .before .before .before .match in
     let at-new-step = c .before .before .new-step in
-    Stepping.news (start .pre .0) _ (sym (at-kind-at .ensures) ∙ at-match .keys3) (at-new-step .ensures)
+    Stepping.does-as (Stepping.new-is _ (start .pre .0) (sym (at-kind-at .ensures) ∙ at-match .keys3)) (at-new-step .ensures)
 
 same-length-4 : tie.Need-same-length-4
 same-length-4 c = search needs
@@ -137,7 +137,7 @@ returns-4 c =
     let at-kind-at = c .before .before .before .before .before .kind-at in
     let at-match = c .before .before .before .before .match in
     let at-call-step = c .before .before .call-step in
-    Stepping.calls (start .pre .0) _ (sym (at-kind-at .ensures) ∙ at-match .keys4) (at-call-step .ensures)
+    Stepping.does-as (Stepping.call-is _ (start .pre .0) (sym (at-kind-at .ensures) ∙ at-match .keys4)) (at-call-step .ensures)
 
 same-length-5 : tie.Need-same-length-5
 same-length-5 c = search needs
@@ -149,7 +149,7 @@ returns-5 c =
     let at-kind-at = c .before .before .before .before .before .kind-at in
     let at-match = c .before .before .before .before .match in
     let at-back-step = c .before .before .back-step in
-    Stepping.backs (start .pre .0) _ (⊎-elim (λ e. inl (sym (at-kind-at .ensures) ∙ e)) (λ e. inr (sym (at-kind-at .ensures) ∙ e)) (at-match .keys5)) (at-back-step .ensures)
+    Stepping.does-as (Stepping.back-is _ (⊎-elim (λ e. inl (sym (at-kind-at .ensures) ∙ e)) (λ e. inr (sym (at-kind-at .ensures) ∙ e)) (at-match .keys5))) (at-back-step .ensures)
 
 same-length-6 : tie.Need-same-length-6
 same-length-6 c = search needs
@@ -160,7 +160,7 @@ returns-6 c =
     let start = c .before .before .before .before .before .before .before in
     let at-kind-at = c .before .before .before .kind-at in
     let at-match = c .before .before .match in
-    Stepping.asserts (start .pre .0) _ (⊎-elim (λ e. inl (sym (at-kind-at .ensures) ∙ e)) (λ e. inr (sym (at-kind-at .ensures) ∙ e)) (at-match .keys6)) (c .assert-step .ensures)
+    Stepping.does-as (Stepping.assert-is _ (⊎-elim (λ e. inl (sym (at-kind-at .ensures) ∙ e)) (λ e. inr (sym (at-kind-at .ensures) ∙ e)) (at-match .keys6))) (c .assert-step .ensures)
 
 same-length-7 : tie.Need-same-length-7
 same-length-7 c = search needs
@@ -172,7 +172,7 @@ returns-7 c =
     let at-kind-at = c .before .before .before .before .before .kind-at in
     let at-match = c .before .before .before .before .match in
     let at-release-step = c .before .before .release-step in
-    Stepping.releases (start .pre .0) _ (sym (at-kind-at .ensures) ∙ at-match .keys7) (at-release-step .ensures)
+    Stepping.does-as (Stepping.release-is _ (sym (at-kind-at .ensures) ∙ at-match .keys7)) (at-release-step .ensures)
 
 same-length-8 : tie.Need-same-length-8
 same-length-8 c = search needs
@@ -183,7 +183,7 @@ returns-8 c =
     let start = c .before .before .before .before .before .before .before in
     let at-kind-at = c .before .before .before .kind-at in
     let at-match = c .before .before .match in
-    Stepping.ifs (start .pre .0) _ (sym (at-kind-at .ensures) ∙ at-match .keys8) (c .if-step .ensures)
+    Stepping.does-as (Stepping.if-is _ (sym (at-kind-at .ensures) ∙ at-match .keys8)) (c .if-step .ensures)
 
 same-length-9 : tie.Need-same-length-9
 same-length-9 c = search needs
@@ -194,7 +194,7 @@ returns-9 c =
     let start = c .before .before .before .before .before .before .before in
     let at-kind-at = c .before .before .before .kind-at in
     let at-match = c .before .before .match in
-    Stepping.loops (start .pre .0) _ (sym (at-kind-at .ensures) ∙ at-match .keys9) (c .loop-step .ensures)
+    Stepping.does-as (Stepping.loop-is _ (sym (at-kind-at .ensures) ∙ at-match .keys9)) (c .loop-step .ensures)
 
 same-length-10 : tie.Need-same-length-10
 same-length-10 c = search needs
@@ -205,7 +205,7 @@ returns-10 c =
     let start = c .before .before .before .before .before .before .before in
     let at-kind-at = c .before .before .before .kind-at in
     let at-match = c .before .before .match in
-    Stepping.jumps (start .pre .0) _ (⊎-elim (λ e. inl (sym (at-kind-at .ensures) ∙ e)) (λ e. inr (sym (at-kind-at .ensures) ∙ e)) (at-match .keys10)) (c .jump-step .ensures)
+    Stepping.does-as (Stepping.jump-is _ (⊎-elim (λ e. inl (sym (at-kind-at .ensures) ∙ e)) (λ e. inr (sym (at-kind-at .ensures) ∙ e)) (at-match .keys10))) (c .jump-step .ensures)
 
 same-length-11 : tie.Need-same-length-11
 same-length-11 c = search needs
@@ -217,7 +217,7 @@ returns-11 c =
     let at-kind-at = c .before .before .before .before .before .kind-at in
     let at-match = c .before .before .before .before .match in
     let at-open-step = c .before .before .open-step in
-    Stepping.opens (start .pre .0) _ (sym (at-kind-at .ensures) ∙ at-match .keys11) (at-open-step .ensures)
+    Stepping.does-as (Stepping.open-is _ (sym (at-kind-at .ensures) ∙ at-match .keys11)) (at-open-step .ensures)
 
 same-length-12 : tie.Need-same-length-12
 same-length-12 c = search needs
@@ -228,7 +228,7 @@ returns-12 c =
     let start = c .before .before .before .before .before .before .before in
     let at-kind-at = c .before .before .before .kind-at in
     let at-match = c .before .before .match in
-    Stepping.shuts (start .pre .0) _ (sym (at-kind-at .ensures) ∙ at-match .keys12) (c .shut-step .ensures)
+    Stepping.does-as (Stepping.shut-is _ (sym (at-kind-at .ensures) ∙ at-match .keys12)) (c .shut-step .ensures)
 
 same-length-13 : tie.Need-same-length-13
 same-length-13 c = search needs
@@ -247,7 +247,7 @@ returns-13 c =
     (λ o. other .0 .0 .0 .0 .0 .0 .1 (⊎-elim (λ z. inl (is ∙ z)) (λ z. inr (is ∙ z)) o)) (λ z. other .0 .0 .0 .0 .0 .1 (is ∙ z))
     (λ z. other .0 .0 .0 .0 .1 (is ∙ z)) (λ z. other .0 .0 .0 .1 (is ∙ z))
     (λ o. other .0 .0 .1 (⊎-elim (λ z. inl (is ∙ z)) (λ z. inr (is ∙ z)) o)) (λ z. other .0 .1 (is ∙ z)) (λ z. other .1 (is ∙ z)) (λ z. other .0 .0 .0 .0 .0 .0 .0 .1 (inr (is ∙ z))) in
-    Stepping.computes (start .pre .0) _ t (at-compute-step .ensures)
+    Stepping.does-as (Stepping.compute-is _ t) (at-compute-step .ensures)
 
 same-length-14 : tie.Need-same-length-14
 same-length-14 c = search needs

@@ -1,26 +1,23 @@
-use mathlib.Core.Path.{sym, _∙_}
-use Rattle.run_numbers.proofs.Computing.{computed-value, computed-stop}
-use Rattle.run_numbers.specs.Computing.{computedIs}
+use borrow.Author.Tests.{ne-eqb}
+use Rattle.rules.specs.Grammar.{add-kind}
+use Rattle.tables.specs.Decode.{operationOf}
 use borrow.Author.Needs.{needs}
 use Rattle.run_numbers.proofs.compute.Statement.{statement}
 use Rattle.run_numbers.proofs.compute.Tie as tie
 
-raised-requires : tie.Need-raised-requires
-raised-requires c κs = search needs
-
-in-range-requires : tie.Need-in-range-requires
-in-range-requires c κs = search needs
-
-cast-t7 : tie.Need-cast-t7
-cast-t7 c = search needs
+add-requires : tie.Need-add-requires
+add-requires c κs = search needs
 
 returns : tie.Need-returns
-unfolding computedIs
-returns c = computed-value _ _ _ _ (c .before .before .raised .ensures) (sym (c .before .in-range .ensures) ∙ c .if1 .taken)
+unfolding operationOf
+returns c = rw (c .before .if1 .taken) (c .add .ensures)
+
+subtract-requires : tie.Need-subtract-requires
+subtract-requires c κs = search needs
 
 returns-2 : tie.Need-returns-2
-unfolding computedIs
-returns-2 c = computed-stop _ _ _ _ (c .before .before .raised .ensures) (sym (c .before .in-range .ensures) ∙ c .if1 .left)
+unfolding operationOf
+returns-2 c = rw (ne-eqb _ add-kind (c .before .if1 .left)) (c .subtract .ensures)
 
 pub compute-spec : {M : Type 1} → statement M
-compute-spec = tie.close (tie.spec raised-requires in-range-requires cast-t7 returns returns-2)
+compute-spec = tie.close (tie.spec add-requires returns subtract-requires returns-2)

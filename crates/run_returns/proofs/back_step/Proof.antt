@@ -41,11 +41,10 @@ end-step-requires : tie.Need-end-step-requires
 end-step-requires c κs =
     let start = c .before .before .before .before .before .before .before .before .before .before .before .before .before .before in
     let at-view-of = c .before .before .before .before .before .before .before .before .before .before .before .view-of in
-    let at-variable = c .before .before .before .before .before .before .before .before .before .variable in
     let at-source = c .before .before .before .before .before .before .before .source in
     let at-variable2 = c .before .before .before .before .before .variable2 in
     let at-put-word = c .before .before .before .put-word in
-    end-ready (start .pre) _ (at-view-of .ensures) _ _ _ (at-variable .ensures) (search needs) (at-source .ensures) (at-variable2 .ensures) (search needs) (at-put-word .ensures)
+    end-ready (start .pre) _ (at-view-of .ensures) _ _ (at-source .ensures) (at-variable2 .ensures) (search needs) (at-put-word .ensures)
 
 enum-known-d : tie.Need-enum-known-d
 enum-known-d c = search needs
@@ -63,12 +62,11 @@ put-word-requires-2 : tie.Need-put-word-requires-2
 put-word-requires-2 c κs =
     let start = c .before .before .before .before .before .before .before .before .before .before .before .before .before .before .before .before .before .before .before .before .before in
     let at-view-of = c .before .before .before .before .before .before .before .before .before .before .before .before .before .before .before .before .before .before .view-of in
-    let at-variable = c .before .before .before .before .before .before .before .before .before .before .before .before .before .before .before .before .variable in
     let at-source = c .before .before .before .before .before .before .before .before .before .before .before .before .before .before .source in
     let at-variable2 = c .before .before .before .before .before .before .before .before .before .before .before .before .variable2 in
     let at-put-word = c .before .before .before .before .before .before .before .before .before .before .put-word in
     let at-end-step = c .before .before .before .before .before .before .end-step in
-    omega (arith, base-fits (start .pre) (at-view-of .ensures), size-after (start .pre) _ (at-view-of .ensures) _ _ _ (at-variable .ensures) (search needs) (at-source .ensures) (at-variable2 .ensures) (search needs) (at-put-word .ensures) (at-end-step .ensures))
+    omega (arith, base-fits (start .pre) (at-view-of .ensures), size-after (start .pre) _ (at-view-of .ensures) _ _ (at-source .ensures) (at-variable2 .ensures) (search needs) (at-put-word .ensures) (at-end-step .ensures))
 
 enum-told : tie.Need-enum-told
 enum-told c = search needs
@@ -83,12 +81,11 @@ put-word-requires-3 : tie.Need-put-word-requires-3
 put-word-requires-3 c κs =
     let start = c .before .before .before .before .before .before .before .before .before .before .before .before .before .before .before .before .before .before .before .before in
     let at-view-of = c .before .before .before .before .before .before .before .before .before .before .before .before .before .before .before .before .before .view-of in
-    let at-variable = c .before .before .before .before .before .before .before .before .before .before .before .before .before .before .before .variable in
     let at-source = c .before .before .before .before .before .before .before .before .before .before .before .before .before .source in
     let at-variable2 = c .before .before .before .before .before .before .before .before .before .before .before .variable2 in
     let at-put-word = c .before .before .before .before .before .before .before .before .before .put-word in
     let at-end-step = c .before .before .before .before .before .end-step in
-    omega (arith, base-fits (start .pre) (at-view-of .ensures), size-after (start .pre) _ (at-view-of .ensures) _ _ _ (at-variable .ensures) (search needs) (at-source .ensures) (at-variable2 .ensures) (search needs) (at-put-word .ensures) (at-end-step .ensures))
+    omega (arith, base-fits (start .pre) (at-view-of .ensures), size-after (start .pre) _ (at-view-of .ensures) _ _ (at-source .ensures) (at-variable2 .ensures) (search needs) (at-put-word .ensures) (at-end-step .ensures))
 
 same-length : tie.Need-same-length
 same-length c = search needs
@@ -97,12 +94,11 @@ returns : tie.Need-returns
 returns c =
     let start = c .before .before .before .before .before .before .before .before .before .before .before .before .before .before .before .before .before .before .before .before in
     let at-view-of = c .before .before .before .before .before .before .before .before .before .before .before .before .before .before .before .before .before .view-of in
-    let at-variable = c .before .before .before .before .before .before .before .before .before .before .before .before .before .before .before .variable in
     let at-source = c .before .before .before .before .before .before .before .before .before .before .before .before .before .source in
     let at-variable2 = c .before .before .before .before .before .before .before .before .before .before .before .variable2 in
     let at-put-word = c .before .before .before .before .before .before .before .before .before .put-word in
     let at-end-step = c .before .before .before .before .before .end-step in
-    return-goes (start .pre) _ (at-view-of .ensures) _ _ _ (at-variable .ensures) (search needs) (at-source .ensures) (at-variable2 .ensures) (search needs) (at-put-word .ensures) (at-end-step .ensures) _ (c .before .d .given .1)
+    return-goes (start .pre) _ (at-view-of .ensures) _ _ (at-source .ensures) (at-variable2 .ensures) (search needs) (at-put-word .ensures) (at-end-step .ensures) _ (c .before .d .given .1)
 
 same-length-2 : tie.Need-same-length-2
 same-length-2 c = search needs
@@ -118,7 +114,7 @@ returns-2 c =
     let at-end-step = c .before .before .before .before .before .before .before .before .before .end-step in
     let at-s = c .before .before .before .before .before .s in
     let at-put-word2 = c .before .before .put-word2 in
-    return-stops (start .pre) _ (at-view-of .ensures) _ _ _ (at-variable .ensures) (search needs) (at-source .ensures) (at-variable2 .ensures) (search needs) (at-put-word .ensures) (at-end-step .ensures) (at-put-word2 .ensures) _ (at-s .given .1)
+    return-stops (start .pre) _ (at-view-of .ensures) _ _ (at-source .ensures) (at-variable2 .ensures) (search needs) (at-put-word .ensures) (at-end-step .ensures) _ (at-variable .ensures) (search needs) (at-put-word2 .ensures) _ (at-s .given .1)
 
 same-length-3 : tie.Need-same-length-3
 same-length-3 c = search needs
@@ -134,7 +130,7 @@ returns-3 c =
     let at-end-step = c .before .before .before .before .before .before .before .before .end-step in
     let at-enum-told = c .before .before .before .before .enum-told in
     let at-put-word3 = c .before .before .put-word3 in
-    return-ends (start .pre) _ (at-view-of .ensures) _ _ _ (at-variable .ensures) (search needs) (at-source .ensures) (at-variable2 .ensures) (search needs) (at-put-word .ensures) (at-end-step .ensures) (at-put-word3 .ensures) (at-enum-told .given .1)
+    return-ends (start .pre) _ (at-view-of .ensures) _ _ (at-source .ensures) (at-variable2 .ensures) (search needs) (at-put-word .ensures) (at-end-step .ensures) _ (at-variable .ensures) (search needs) (at-put-word3 .ensures) (at-enum-told .given .1)
 
 pub back-step-spec : {M : Type 1} → statement M
 back-step-spec =

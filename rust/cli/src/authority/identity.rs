@@ -1,6 +1,7 @@
 //! Which script, which library, and when.
 
 use super::sha256;
+use explain::Json;
 use nuyardi::limits;
 use std::time::{SystemTime, UNIX_EPOCH};
 
@@ -12,6 +13,15 @@ pub const VERSION: &str = env!("CARGO_PKG_VERSION");
 pub const LIBRARY: &str = env!("LIBRARY_SHA256");
 /// The logic sum of the prover on the machine that built this.
 pub const LOGIC: &str = env!("LOGIC_SUM");
+
+/// Which build this is, in JSON.
+pub fn build(object: Json) -> Json {
+    object
+        .with("version", VERSION)
+        .with("level", LEVEL)
+        .with("library", LIBRARY)
+        .with("logic", LOGIC)
+}
 
 pub struct Identity {
     pub file: String,

@@ -9,7 +9,7 @@ mod film;
 mod findings;
 mod handed;
 mod html;
-mod identity;
+pub mod identity;
 mod index;
 mod methods;
 mod object;
@@ -27,8 +27,10 @@ mod tests;
 mod text;
 mod write;
 
-use crate::files::{self, complain, complain_of};
-use crate::session::{Session, DONE, FAILED, REFUSED};
+use crate::files::{self, complain, complain_of, Unread};
+use crate::misuse::Misuse;
+use crate::session::{Session, Status};
+use crate::table::Flag;
 use explain::objects;
 use explain::show::file_name;
 use findings::Findings;
@@ -37,7 +39,7 @@ use std::ffi::{OsStr, OsString};
 use std::path::Path;
 
 /// A file by its name for messages, and its text.
-type File = (String, std::io::Result<Vec<u8>>);
+type File = (String, Result<Vec<u8>, Unread>);
 
 /// Is the page one of the scripts?
 fn takes_place_of_a_script(page: &OsStr, scripts: &[OsString]) -> bool {
@@ -46,15 +48,15 @@ fn takes_place_of_a_script(page: &OsStr, scripts: &[OsString]) -> bool {
     page.is_some() && scripts.iter().any(|script| same(script) == page)
 }
 
-/// Why a page can't stand there, if it can't.
-fn unfit(session: &Session, page: &OsStr, scripts: &[OsString]) -> Option<String> {
+/// May the page stand there?
+fn fits(session: &Session, page: &OsStr, scripts: &[OsString]) -> Result<(), Misuse> {
     if page == "-" && session.json() {
-        return Some("--json and --html - would print both to one place".to_string());
+        return Err(Misuse::OnePlace);
     }
-    takes_place_of_a_script(page, scripts).then(|| {
-        let page = file_name(page);
-        format!("{page} is one of the scripts; name another file for the page")
-    })
+    match takes_place_of_a_script(page, scripts) {
+        true => Err(Misuse::PageOverScript(page.to_os_string())),
+        false => Ok(()),
+    }
 }
 
 /// Reads each file; what can't be read is told.
@@ -71,8 +73,11 @@ fn read(names: &[OsString]) -> Vec<File> {
 
 /// Looks into each text.
 fn entries<'a>(session: &mut Session, files: &'a [File]) -> Vec<Entry<'a>> {
-    let steps = session.words.has("steps").then_some(session.words.steps);
-    let time = (!session.words.has("no-time")).then(identity::now);
+    let steps = session
+        .words
+        .has(Flag::Steps)
+        .then_some(session.words.steps);
+    let time = (!session.words.has(Flag::NoTime)).then(identity::now);
     let library = &mut session.library;
     let one = |(file, text): &'a File| match text {
         Ok(text) => {
@@ -88,13 +93,13 @@ fn entries<'a>(session: &mut Session, files: &'a [File]) -> Vec<Entry<'a>> {
 }
 
 /// The worst of all: a file that can't be read, a text that is refused.
-fn status(entries: &[Entry]) -> u8 {
+fn status(entries: &[Entry]) -> Status {
     let one = |entry: &Entry| match entry {
-        Entry::Found(findings) if findings.refusal().is_none() => DONE,
-        Entry::Found(_) => REFUSED,
-        Entry::Unread { .. } => FAILED,
+        Entry::Found(findings) if findings.refusal().is_none() => Status::Done,
+        Entry::Found(_) => Status::Refused,
+        Entry::Unread { .. } => Status::Failed,
     };
-    entries.iter().map(one).max().unwrap_or(DONE)
+    entries.iter().map(one).max().unwrap_or(Status::Done)
 }
 
 fn print(session: &mut Session, entries: &[Entry], indexed: bool) {
@@ -118,38 +123,34 @@ fn print(session: &mut Session, entries: &[Entry], indexed: bool) {
 }
 
 /// Writes the page, whole or not at all.
-fn write_page(session: &mut Session, page: &OsStr, entries: &[Entry], indexed: bool) -> u8 {
+fn write_page(session: &mut Session, page: &OsStr, entries: &[Entry], indexed: bool) -> Status {
     if !entries.iter().any(|entry| matches!(entry, Entry::Found(_))) {
         complain("no script was read, and no page is written");
-        return FAILED;
+        return Status::Failed;
     }
     let made = page::page(entries, indexed);
     if page == "-" {
         session.print(&made);
-        return DONE;
+        return Status::Done;
     }
     if let Err(error) = write::write(Path::new(page), made.as_bytes()) {
         complain(&format!("{}: {error}; no page is written", file_name(page)));
-        return FAILED;
+        return Status::Failed;
     }
     if !session.json() {
         session.print(&format!("{}: {}\n", file_name(page), total(entries)));
     }
-    DONE
+    Status::Done
 }
 
 /// The command.
-pub fn report(session: &mut Session) -> u8 {
+pub fn report(session: &mut Session) -> Status {
     let operands = std::mem::take(&mut session.words.operands);
     let names = files::expanded(&operands);
     let indexed = names.len() > 1 || operands.iter().any(|name| Path::new(name).is_dir());
     let page = session.words.html.take();
-    if let Some(told) = page
-        .as_deref()
-        .and_then(|page| unfit(session, page, &names))
-    {
-        complain(&told);
-        return FAILED;
+    if let Some(Err(misuse)) = page.as_deref().map(|page| fits(session, page, &names)) {
+        return session.misused(&misuse);
     }
     let files = read(&names);
     let entries = entries(session, &files);
@@ -158,5 +159,5 @@ pub fn report(session: &mut Session) -> u8 {
         print(session, &entries, indexed);
     }
     let written = page.map(|page| write_page(session, &page, &entries, indexed));
-    worst.max(written.unwrap_or(DONE))
+    worst.max(written.unwrap_or(Status::Done))
 }

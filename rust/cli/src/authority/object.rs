@@ -3,7 +3,7 @@
 use super::answers;
 use super::claims::{Theorem, ASSUMED};
 use super::findings::Findings;
-use super::identity::{LEVEL, LIBRARY, LOGIC, VERSION};
+use super::identity::build;
 use super::methods::Row;
 use super::reasons::{Reason, Why};
 use super::said::plain;
@@ -98,16 +98,12 @@ fn stop(row: &StopRow) -> Json {
 fn identity(findings: &Findings) -> Json {
     let identity = &findings.identity;
     let content = identity.content.as_ref();
-    Json::object()
+    let object = Json::object()
         .with("file", identity.file.as_str())
         .with("call", "report")
         .with("bytes", content.map(|content| content.0))
-        .with("sha256", content.map(|content| content.1.as_str()))
-        .with("version", VERSION)
-        .with("level", LEVEL)
-        .with("library", LIBRARY)
-        .with("logic", LOGIC)
-        .with_some("time", identity.time.as_deref())
+        .with("sha256", content.map(|content| content.1.as_str()));
+    build(object).with_some("time", identity.time.as_deref())
 }
 
 /// The bound, or why there is none.

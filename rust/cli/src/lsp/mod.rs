@@ -5,7 +5,7 @@ mod features;
 mod framing;
 mod outline;
 
-use crate::session::{DONE, REFUSED};
+use crate::session::Status;
 use explain::json::{parse, Json};
 use std::collections::HashMap;
 use std::io::{BufRead, Write};
@@ -163,7 +163,7 @@ impl Server {
 }
 
 /// Serves until the editor says `exit` or its input ends: the status.
-fn served(input: &mut impl BufRead, output: &mut impl Write) -> u8 {
+fn served(input: &mut impl BufRead, output: &mut impl Write) -> Status {
     let mut server = Server::default();
     while let Some(body) = framing::read(input) {
         let message = std::str::from_utf8(&body).ok().and_then(parse);
@@ -179,13 +179,13 @@ fn served(input: &mut impl BufRead, output: &mut impl Write) -> u8 {
         }
     }
     if server.shut {
-        DONE
+        Status::Done
     } else {
-        REFUSED
+        Status::Refused
     }
 }
 
 /// The command.
-pub fn serve() -> u8 {
+pub fn serve() -> Status {
     served(&mut std::io::stdin().lock(), &mut std::io::stdout().lock())
 }

@@ -15,6 +15,10 @@ static size_t run(const uint8_t *text, size_t length, char *out, size_t capacity
     return nuyardi_explain_run(text, length, steps, out, capacity);
 }
 
+static size_t cards(const uint8_t *text, size_t length, char *out, size_t capacity) {
+    return nuyardi_cards(text, length, steps, out, capacity);
+}
+
 static size_t trace(const uint8_t *text, size_t length, char *out, size_t capacity) {
     return nuyardi_trace(text, length, steps, out, capacity);
 }
@@ -25,7 +29,7 @@ static size_t draw(const uint8_t *text, size_t length, char *out, size_t capacit
 
 typedef size_t call(const uint8_t *, size_t, char *, size_t);
 
-static call *const calls[] = {nuyardi_explain, run, trace, draw};
+static call *const calls[] = {nuyardi_explain, run, cards, trace, draw};
 enum { CALLS = sizeof calls / sizeof *calls };
 
 static void expect(int held, const char *promise) {

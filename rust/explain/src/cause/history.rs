@@ -5,6 +5,7 @@ use crate::rounds::Rounds;
 use crate::script::{quoted, Names, Script};
 use model::machine::{location, Location, Locations, Machine, Step, Values};
 use model::names::{Action, Expr, Path, Var, PARAM, RESULT, THIS, VARS};
+use model::number::Stop;
 
 /// A step and its line; zeros where there was none.
 #[derive(Clone, Copy, Debug, Default, PartialEq, Eq)]
@@ -48,7 +49,7 @@ impl Trail {
         (machine, trail)
     }
 
-    fn step(&mut self, machine: &mut Machine) -> Result<Step, u32> {
+    fn step(&mut self, machine: &mut Machine) -> Result<Step, Stop> {
         let statement = machine.statement();
         let frame = *machine.frame();
         let depth = machine.frames.len();

@@ -11,7 +11,7 @@ use crate::script::{field_range, line, listed, shown, Names, Script};
 use model::checker::{Permission, State, Term};
 use model::limits;
 use model::names::{Action, Atom, Expr, Path, Statement};
-use model::number::STATE_FULL;
+use model::number::Reason;
 use model::text::Share;
 use model::watch::{Asked, Purpose, Record};
 use std::ops::Range;
@@ -389,8 +389,8 @@ pub fn cause(text: &[u8], number: u32) -> Option<Cause> {
 
 /// The same, of a check that was written down.
 pub fn cause_in(script: &Script, record: &Record, number: u32) -> Option<Cause> {
-    match record.refusal?.number {
-        STATE_FULL => full(script, record, number),
+    match record.refusal?.reason {
+        Reason::StateFull => full(script, record, number),
         _ => chains::no_rest(script, record, number).or_else(|| not_shown(script, record, number)),
     }
 }

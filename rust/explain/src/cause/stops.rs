@@ -8,7 +8,7 @@ use crate::rounds::Open;
 use crate::script::{field_range, line, quoted, shown, Names, Script};
 use model::machine::{Machine, Step, Values};
 use model::names::{Action, Atom, Expr, Path, Type};
-use model::number;
+use model::number::{self, Stop};
 use model::text::{Operator, Share};
 use model::watch::{Halt, Tested};
 
@@ -107,18 +107,20 @@ fn path_kind<'a>(machine: &Machine<'_, 'a>, values: &Values, path: Path) -> Opti
 
 /// Why the step after so many steps stopped with the number; none if the model
 /// does not stop so.
-pub fn stop_cause(text: &[u8], steps: u32, stop: u32) -> Option<Cause> {
+pub fn stop_cause(text: &[u8], steps: u32, number: u32) -> Option<Cause> {
     let script = Script::of(text)?;
-    if stop == number::OUT_OF_STEPS {
+    if number == number::OUT_OF_STEPS {
         return in_a_loop(&script, steps);
     }
     if steps > AGAIN {
         return None;
     }
     let (mut machine, trail) = Trail::of(&script, steps);
-    if machine.steps != steps || machine.step() != Err(stop) {
+    if machine.steps != steps {
         return None;
     }
+    let stop = machine.step().err();
+    let stop = stop.filter(|stop| stop.number() == number)?;
     let halt = machine.halt?;
     let walk = walk_history(&script, &machine, &trail, halt);
     let history = walk.unwrap_or_else(|| history(&script, &machine, &trail, halt));
@@ -176,21 +178,21 @@ fn history(script: &Script, machine: &Machine, trail: &Trail, halt: Halt) -> Vec
     let inside = !matches!(halt.tested, Tested::Requires);
     let var = |var| trail.of_var(script, &own, var).filter(|_| inside);
     let mut found = Vec::new();
-    match (halt.number, halt.path) {
-        (number::PERMISSION_MISSING, Some(path)) => {
+    match (halt.stop, halt.path) {
+        (Stop::PermissionMissing, Some(path)) => {
             // Where one half is held, what is said of the other tells it.
             let none = halt.missing.is_none_or(|missing| missing.held == 0);
             let went = trail.of_permission(script, machine, &names, &values, path);
             found.extend(went.filter(|_| none));
             found.extend(same_card(&names, &values, path.var));
         }
-        (number::NULL_FOLLOWED, Some(path)) => found.extend(var(path.var)),
-        (number::NULL_FOLLOWED, None) => {
+        (Stop::NullFollowed, Some(path)) => found.extend(var(path.var)),
+        (Stop::NullFollowed, None) => {
             if let Action::Call(call) = machine.statement().action {
                 found.extend(var(call.y));
             }
         }
-        (number::FORMULA_FALSE, _) => {
+        (Stop::FormulaFalse, _) => {
             let atom = halt.atom.zip(tested.as_ref());
             let atom = atom.and_then(|(at, tested)| tested.atoms.get(at));
             if let Some(Atom::Eq(left, right) | Atom::Ne(left, right)) = atom {
@@ -201,7 +203,7 @@ fn history(script: &Script, machine: &Machine, trail: &Trail, halt: Halt) -> Vec
                 }
             }
         }
-        (number::OVERFLOW, _) => {
+        (Stop::Overflow, _) => {
             if let Action::Compute(compute) = machine.statement().action {
                 found.extend(var(compute.y));
                 found.extend(var(compute.z).filter(|_| compute.y != compute.z));
@@ -351,8 +353,8 @@ fn false_atom(
 ) -> Option<String> {
     let atom = *tested.atoms.get(at)?;
     let shown = format!("`{}`{}", tested.names.atom(atom), tested.of);
-    Some(match (halt.number, atom) {
-        (number::FORMULA_FALSE, Atom::Eq(left, right) | Atom::Ne(left, right)) => {
+    Some(match (halt.stop, atom) {
+        (Stop::FormulaFalse, Atom::Eq(left, right) | Atom::Ne(left, right)) => {
             let sides = [left, right].into_iter();
             let sides: Vec<String> = sides
                 .filter_map(|expr| side(machine, tested, expr))
@@ -364,10 +366,10 @@ fn false_atom(
             let walk = Walk::of(machine, tested.names, &tested.values, earlier, halt)?;
             format!("{shown} {}", walk.said(halt, &names.title()))
         }
-        (number::PERMISSION_MISSING, _) => {
+        (Stop::PermissionMissing, _) => {
             format!("{shown}: {} {}", names.title(), lack(halt.missing))
         }
-        (number::NULL_FOLLOWED, _) => {
+        (Stop::NullFollowed, _) => {
             format!("{shown}: `{}` is null", tested.names.var(halt.path?.var))
         }
         _ => return None,
@@ -400,14 +402,14 @@ fn walk_said(machine: &Machine, names: Names, halt: Halt) -> Option<String> {
 }
 
 /// What is full: the heap, or the frames and what they are of.
-fn full(script: &Script, machine: &Machine, stop: u32) -> Option<String> {
+fn full(script: &Script, machine: &Machine, stop: Stop) -> Option<String> {
     match stop {
-        number::HEAP_FULL => Some(format!(
+        Stop::HeapFull => Some(format!(
             "{} objects with {} fields are made already",
             machine.objects.len(),
             machine.heap.len()
         )),
-        number::FRAMES_FULL => {
+        Stop::FramesFull => {
             let block = machine.frame().block;
             let same = machine.frames.iter().filter(|frame| frame.block == block);
             let (count, of) = (same.count(), script.names(block).title());
@@ -420,8 +422,8 @@ fn full(script: &Script, machine: &Machine, stop: u32) -> Option<String> {
     }
 }
 
-fn followed(names: &Names, action: &Action, path: Option<Path>, stop: u32) -> Option<String> {
-    let missing = stop == number::PERMISSION_MISSING;
+fn followed(names: &Names, action: &Action, path: Option<Path>, stop: Stop) -> Option<String> {
+    let missing = stop == Stop::PermissionMissing;
     Some(match (path, action) {
         (Some(path), _) if missing => format!(
             "{} does not hold `{}`",
@@ -435,7 +437,7 @@ fn followed(names: &Names, action: &Action, path: Option<Path>, stop: u32) -> Op
                 names.var(path.var)
             )
         }
-        (None, Action::Call(call)) if stop == number::NULL_FOLLOWED => {
+        (None, Action::Call(call)) if stop == Stop::NullFollowed => {
             format!("the receiver `{}` is null", names.var(call.y))
         }
         _ => return None,

@@ -67,6 +67,39 @@ static void bound_calls(const uint8_t *text, size_t len)
     expect(all(work, sizeof work, 0xa5) && all(bounds, sizeof bounds, 0x5a), "number 1 leaves both areas of bound");
 }
 
+/* What station_run returns and leaves, for the steps; number 1 changes nothing. */
+static void lean_calls(const uint8_t *text, size_t len, uint32_t steps)
+{
+    uint8_t expected[STATION_RESULTS_BYTES];
+    uint32_t ran, returned;
+
+    garbage();
+    ran = station_run(text, len, work, STATION_WORK_BYTES, steps, results, STATION_RESULTS_BYTES);
+    memcpy(expected, results, sizeof expected);
+    garbage();
+    returned = station_lean(text, len, work, STATION_WORK_BYTES, steps, results, STATION_RESULTS_BYTES);
+    expect(returned == ran, "lean returns what run returns");
+    expect(!memcmp(results, expected, sizeof expected), "lean leaves the results of run");
+    expect(all(work, STATION_WORK_BYTES, 0), "lean clears the work area");
+    expect(work[STATION_WORK_BYTES] == 0xa5 && results[STATION_RESULTS_BYTES] == 0x5a, "lean stays within the areas");
+
+    const size_t lengths[][2] = {
+        {STATION_WORK_BYTES + 1, STATION_RESULTS_BYTES},
+        {STATION_WORK_BYTES - 1, STATION_RESULTS_BYTES},
+        {STATION_WORK_BYTES, STATION_RESULTS_BYTES + 1},
+        {STATION_WORK_BYTES, STATION_RESULTS_BYTES - 1},
+        {STATION_WORK_BYTES, 0},
+        {0, 0},
+    };
+    for (size_t at = 0; at < sizeof lengths / sizeof *lengths; at++) {
+        garbage();
+        returned = station_lean(text, len, lengths[at][0] ? work : NULL, lengths[at][0], steps,
+                                lengths[at][1] ? results : NULL, lengths[at][1]);
+        expect(returned == STATION_AREA_LENGTH * 65536, "an area of wrong length for lean");
+        expect(all(work, sizeof work, 0xa5) && all(results, sizeof results, 0x5a), "number 1 leaves both areas of lean");
+    }
+}
+
 int main(void)
 {
     const char *script = "main\nvar\tint\ta\nvar\tint\tb\nlet\ta\t-7\nend\n";
@@ -120,6 +153,11 @@ int main(void)
     expect(all(work, sizeof work, 0xa5) && all(results, sizeof results, 0x5a), "number 1 changes nothing");
 
     bound_calls(text, len);
+    lean_calls(text, len, 0);
+    lean_calls(text, len, 1);
+    lean_calls(text, len, 1000);
+    lean_calls((const uint8_t *)refused, strlen(refused), 9);
+    lean_calls(NULL, 0, 9);
 
     puts(wrong ? "wrong" : "right");
     return wrong;

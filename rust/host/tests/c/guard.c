@@ -2,9 +2,10 @@
  * be touched right before and right after every area and every text; a text's own
  * pages may only be read. Each thread has areas of its own; the texts are shared.
  *
- * guard STEPS FILE..: prints what check, run, trial and bound returned, for each
- * file, and a sum of the results and bounds areas. Exit status 1 if two threads
- * differ or the work area is not all zero after a call. */
+ * guard STEPS FILE..: prints what check, run, trial, bound and lean returned, for
+ * each file, and a sum of the results and bounds areas. Exit status 1 if two
+ * threads differ, if lean and run do, or if the work area is not all zero after a
+ * call. */
 #define _GNU_SOURCE
 #include "station.h"
 
@@ -27,7 +28,7 @@ struct text {
 };
 
 struct answer {
-    uint32_t checked, ran, tried, bounded, sum;
+    uint32_t checked, ran, tried, bounded, leaned, sum;
 };
 
 static struct text *texts;
@@ -108,6 +109,18 @@ static void *work_on(void *own)
         again = station_bound(texts[i].before, texts[i].len, work, STATION_WORK_BYTES, first, STATION_BOUNDS_BYTES);
         if (!all_zero(work, STATION_WORK_BYTES) || again != answer[i].bounded || memcmp(first, last, STATION_BOUNDS_BYTES))
             wrong = 1;
+        memset(work, 0x5a, STATION_WORK_BYTES);
+        memset(low, 0xa5, results_room);
+        answer[i].leaned = station_lean(texts[i].after, texts[i].len, work, STATION_WORK_BYTES, steps, high, STATION_RESULTS_BYTES);
+        answer[i].sum = added(answer[i].sum, high, STATION_RESULTS_BYTES);
+        clear = all_zero(work, STATION_WORK_BYTES);
+        again = station_lean(texts[i].before, texts[i].len, work, STATION_WORK_BYTES, steps, low, STATION_RESULTS_BYTES);
+        if (!clear || !all_zero(work, STATION_WORK_BYTES) || again != answer[i].leaned || memcmp(low, high, STATION_RESULTS_BYTES))
+            wrong = 1;
+        memset(high, 0x5a, STATION_RESULTS_BYTES);
+        again = station_run(texts[i].after, texts[i].len, work, STATION_WORK_BYTES, steps, high, STATION_RESULTS_BYTES);
+        if (again != answer[i].leaned || memcmp(low, high, STATION_RESULTS_BYTES))
+            wrong = 1;
     }
     return NULL;
 }
@@ -142,7 +155,8 @@ int main(int words, char **word)
             wrong = 1;
     }
     for (int i = 0; i < count; i++)
-        printf("%u %u %u %u %u\n", answers[0][i].checked, answers[0][i].ran, answers[0][i].tried, answers[0][i].bounded, answers[0][i].sum);
+        printf("%u %u %u %u %u %u\n", answers[0][i].checked, answers[0][i].ran, answers[0][i].tried, answers[0][i].bounded, answers[0][i].leaned,
+               answers[0][i].sum);
     for (int t = 0; t < THREADS; t++)
         free(answers[t]);
     free(texts);

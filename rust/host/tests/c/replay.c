@@ -2,8 +2,8 @@
  * sees a byte that is read or written outside them, and a result that rests on
  * what they held before.
  *
- * replay STEPS FILE..: prints what check, run, trial and bound returned, for each
- * file, and a sum of the results and bounds. */
+ * replay STEPS FILE..: prints what check, run, trial, bound and lean returned, for
+ * each file, and a sum of the results and bounds. */
 #include "station.h"
 
 #include <stdio.h>
@@ -28,16 +28,19 @@ int main(int count, char **words)
         uint8_t *again = malloc(STATION_WORK_BYTES);
         uint8_t *third = malloc(STATION_WORK_BYTES);
         uint8_t *fourth = malloc(STATION_WORK_BYTES);
+        uint8_t *fifth = malloc(STATION_WORK_BYTES);
         uint8_t *results = malloc(STATION_RESULTS_BYTES);
         uint8_t *others = malloc(STATION_RESULTS_BYTES);
+        uint8_t *leanly = malloc(STATION_RESULTS_BYTES);
         uint8_t *bounds = malloc(STATION_BOUNDS_BYTES);
-        if (!text || !work || !again || !third || !fourth || !results || !others || !bounds)
+        if (!text || !work || !again || !third || !fourth || !fifth || !results || !others || !leanly || !bounds)
             return 2;
         memcpy(text, read, len);
         uint32_t checked = station_check(text, len, work, STATION_WORK_BYTES);
         uint32_t ran = station_run(text, len, again, STATION_WORK_BYTES, steps, results, STATION_RESULTS_BYTES);
         uint32_t tried = station_trial(text, len, third, STATION_WORK_BYTES, steps, others, STATION_RESULTS_BYTES);
         uint32_t bounded = station_bound(text, len, fourth, STATION_WORK_BYTES, bounds, STATION_BOUNDS_BYTES);
+        uint32_t leaned = station_lean(text, len, fifth, STATION_WORK_BYTES, steps, leanly, STATION_RESULTS_BYTES);
         uint32_t sum = 0;
         for (size_t at = 0; at < STATION_RESULTS_BYTES; at++)
             sum = sum * 31 + results[at];
@@ -45,14 +48,18 @@ int main(int count, char **words)
             sum = sum * 31 + others[at];
         for (size_t at = 0; at < STATION_BOUNDS_BYTES; at++)
             sum = sum * 31 + bounds[at];
-        printf("%u %u %u %u %u\n", checked, ran, tried, bounded, sum);
+        for (size_t at = 0; at < STATION_RESULTS_BYTES; at++)
+            sum = sum * 31 + leanly[at];
+        printf("%u %u %u %u %u %u\n", checked, ran, tried, bounded, leaned, sum);
         free(text);
         free(work);
         free(again);
         free(third);
         free(fourth);
+        free(fifth);
         free(results);
         free(others);
+        free(leanly);
         free(bounds);
     }
     return 0;

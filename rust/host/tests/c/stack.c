@@ -2,8 +2,8 @@
  * pattern, and the lowest byte that changed tells how deep it went. What the
  * thread itself takes is measured by an empty call and taken off.
  *
- * stack STEPS FILE..: prints, for each file, the bytes of check, run, trial and
- * bound. */
+ * stack STEPS FILE..: prints, for each file, the bytes of check, run, trial, bound
+ * and lean. */
 #define _GNU_SOURCE
 #include "station.h"
 
@@ -53,6 +53,12 @@ static void *bounded(void *unused)
     return unused;
 }
 
+static void *leaned(void *unused)
+{
+    answer = station_lean(text, len, work, sizeof work, steps, results, sizeof results);
+    return unused;
+}
+
 static long depth(void *(*call)(void *))
 {
     uint8_t *stack = mmap(NULL, STACK, PROT_READ | PROT_WRITE, MAP_PRIVATE | MAP_ANONYMOUS, -1, 0);
@@ -91,7 +97,8 @@ int main(int count, char **words)
         long of_run = depth(ran) - empty;
         long of_trial = depth(tried) - empty;
         long of_bound = depth(bounded) - empty;
-        printf("%ld %ld %ld %ld %s\n", of_check, of_run, of_trial, of_bound, words[i]);
+        long of_lean = depth(leaned) - empty;
+        printf("%ld %ld %ld %ld %ld %s\n", of_check, of_run, of_trial, of_bound, of_lean, words[i]);
     }
     return 0;
 }

@@ -47,7 +47,7 @@ pub fn files(folder: &str, texts: impl IntoIterator<Item = Vec<u8>>) -> Vec<Path
     written.collect()
 }
 
-/// What `replay` and `guard` print of a text, by the model: what check, run, trial and bound return, and a sum of the results and bounds.
+/// What `replay` and `guard` print of a text, by the model: what check, run, trial, bound and lean return, and a sum of the results and bounds.
 pub fn expected(text: &[u8], steps: u32) -> String {
     let mut work = vec![0; limits::WORK_BYTES];
     let mut results = [0; limits::RESULTS_BYTES];
@@ -59,7 +59,9 @@ pub fn expected(text: &[u8], steps: u32) -> String {
     let mut bounds = [0; limits::BOUNDS_BYTES];
     let bounded = model::bound_call(text, &mut work, &mut bounds);
     let sum = results.iter().chain(&bounds).fold(sum, add);
-    format!("{checked} {ran} {tried} {bounded} {sum}\n")
+    let leaned = model::lean_call(text, &mut work, steps, &mut results);
+    let sum = results.iter().fold(sum, add);
+    format!("{checked} {ran} {tried} {bounded} {leaned} {sum}\n")
 }
 
 /// Runs a program that prints a line for each text; each is the model's.

@@ -59,9 +59,11 @@ pub enum Call {
 pub enum Runs {
     Run,
     Trial,
+    /// The library's lean beside the model's run, and beside the model's lean.
+    Lean,
 }
 
-/// A check, a bound, a run and a trial with areas of the right length.
+/// A check, a bound, a run, a trial and a lean run with areas of the right length.
 pub const CHECK: Call = Call::Check { work: WORK_BYTES };
 
 pub const BOUND: Call = Call::Bound {
@@ -75,6 +77,10 @@ pub fn run_of(steps: u32) -> Call {
 
 pub fn trial_of(steps: u32) -> Call {
     run_by(Runs::Trial, steps)
+}
+
+pub fn lean_of(steps: u32) -> Call {
+    run_by(Runs::Lean, steps)
 }
 
 fn run_by(by: Runs, steps: u32) -> Call {
@@ -120,7 +126,7 @@ impl fmt::Display for Difference {
 /// Makes calls of both sides over areas that are kept for the next text.
 pub struct Comparer {
     garbage: Vec<u8>,
-    areas: [Lent; 4],
+    areas: [Lent; 6],
     text: Vec<u8>,
 }
 
@@ -133,7 +139,7 @@ impl Comparer {
         };
         Comparer {
             garbage: (0..3 * WORK_BYTES).map(|_| rng.bits() as u8).collect(),
-            areas: [lent(), lent(), lent(), lent()],
+            areas: std::array::from_fn(|_| lent()),
             text: Vec::new(),
         }
     }
@@ -152,7 +158,8 @@ impl Comparer {
     ) -> Result<u32, Box<Difference>> {
         let from = text.len() % WORK_BYTES;
         let garbage = &self.garbage[from..];
-        let [own_work, own_results, work, results] = &mut self.areas;
+        let [own_work, own_results, work, results, lean_work, lean_results] = &mut self.areas;
+        let mut leaned = None;
         // The library reads a copy of its own, whose bytes must stay.
         self.text.clear();
         self.text.extend_from_slice(text);
@@ -184,6 +191,15 @@ impl Comparer {
                         calls::trial(&self.text, own_work, steps, own_results).word(),
                         judged.trial_call(work, steps, results),
                     ),
+                    Runs::Lean => {
+                        let lean_results = lean_results.set(garbage, results_len).area();
+                        let lean_work = lean_work.set(garbage, len).area();
+                        leaned = Some(judged.lean_call(lean_work, steps, lean_results));
+                        (
+                            calls::lean(&self.text, own_work, steps, own_results).word(),
+                            judged.run_call(work, steps, results),
+                        )
+                    }
                 }
             }
             Call::Bound { work: len, bounds } => {
@@ -205,6 +221,10 @@ impl Comparer {
             "the second area"
         } else if own_work.bytes != work.bytes {
             "the work area"
+        } else if leaned.is_some_and(|leaned| {
+            (leaned, &lean_results.bytes, &lean_work.bytes) != (model, &results.bytes, &work.bytes)
+        }) {
+            "the model's lean run"
         } else {
             return Ok(model);
         };
@@ -219,8 +239,9 @@ impl Comparer {
         }))
     }
 
-    /// Check, run, trial and bound; now and then with areas of another length, and
-    /// with as many steps as can be allowed where the trial ends before them.
+    /// Check, run, trial, bound and lean; now and then with areas of another length,
+    /// lean with no step or few, and all with as many steps as can be allowed where
+    /// the trial ends before them.
     pub fn every(&mut self, text: &[u8], rng: &mut Rng) -> Result<Answers, Box<Difference>> {
         let steps = gen::steps(rng);
         let judged = Judged::new(text);
@@ -228,14 +249,20 @@ impl Comparer {
         let ran = self.call_judged(text, &judged, run_of(steps))?;
         let tried = self.call_judged(text, &judged, trial_of(steps))?;
         let bounded = self.call_judged(text, &judged, BOUND)?;
+        let leaned = self.call_judged(text, &judged, lean_of(steps))?;
+        if steps.is_multiple_of(8) {
+            self.call_judged(text, &judged, lean_of(0))?;
+            self.call_judged(text, &judged, lean_of(1 + text.len() as u32 % 8))?;
+        }
         if rng.below(64) == 0 {
             self.wrong_lengths(text, &judged, rng)?;
         }
         if Returned::of(tried).number() != model::number::OUT_OF_STEPS && rng.below(8) == 0 {
             self.call_judged(text, &judged, run_of(u32::MAX))?;
             self.call_judged(text, &judged, trial_of(u32::MAX))?;
+            self.call_judged(text, &judged, lean_of(u32::MAX))?;
         }
-        Ok([checked, ran, tried, bounded])
+        Ok([checked, ran, tried, bounded, leaned])
     }
 
     fn wrong_lengths(
@@ -256,7 +283,7 @@ impl Comparer {
         let steps = gen::steps(rng);
         self.call_judged(text, judged, Call::Check { work })?;
         self.call_judged(text, judged, Call::Bound { work, bounds })?;
-        for by in [Runs::Run, Runs::Trial] {
+        for by in [Runs::Run, Runs::Trial, Runs::Lean] {
             self.call_judged(
                 text,
                 judged,
@@ -358,13 +385,13 @@ pub const MUTATIONS: usize = 19;
 pub const NUMBERS: usize =
     nuyardi::EXPLANATIONS[nuyardi::EXPLANATIONS.len() - 1].number as usize + 1;
 
-/// What check, run, trial and bound return.
-pub type Answers = [u32; 4];
+/// What check, run, trial, bound and lean return.
+pub type Answers = [u32; 5];
 
-/// How often each number came from check, run, trial and bound.
-pub type Counts = [[u64; NUMBERS]; 4];
+/// How often each number came from check, run, trial, bound and lean.
+pub type Counts = [[u64; NUMBERS]; 5];
 
-pub const NONE: Counts = [[0; NUMBERS]; 4];
+pub const NONE: Counts = [[0; NUMBERS]; 5];
 
 /// Counts added up.
 pub fn add(counts: &mut Counts, more: &Counts) {

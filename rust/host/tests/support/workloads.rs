@@ -151,6 +151,19 @@ pub fn all() -> Vec<Workload> {
         "let b 3",
         "join acc this n acc this p ne this null",
     ];
+    let mixed = [
+        "set this n w",
+        "let a this.n",
+        "add b a w",
+        "assert acc this n ne this null eq this.n a",
+        "if eq a b",
+        "let s this.p",
+        "else",
+        "sub b b a",
+        "join acc this n acc this p ne this null",
+        "set this p s",
+        "assert acc this p eq this.p s",
+    ];
     let workload = |name, text, steps| Workload { name, text, steps };
     let examples = [
         workload(
@@ -188,6 +201,12 @@ pub fn all() -> Vec<Workload> {
         workload(
             "run: branches",
             calls(19, HELD, BACK, &branches),
+            Some(1_000_000),
+        ),
+        workload("run: mixed", calls(17, HELD, BACK, &mixed), Some(1_000_000)),
+        workload(
+            "run: a large catalogue",
+            include_bytes!("../../../../examples/catalogue.script").to_vec(),
             Some(1_000_000),
         ),
     ];

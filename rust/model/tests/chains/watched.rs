@@ -5,6 +5,7 @@ use crate::common::script;
 use crate::{main_with, method};
 use model::machine::{Machine, Step};
 use model::names::{Atom, Expr};
+use model::number::Reason;
 use model::read;
 use model::text::{self, Share};
 use model::watch::{Asked, Halt, Missing, Purpose, Record, Tested};
@@ -27,7 +28,7 @@ fn asked<T>(source: &str, number: u32, look: impl FnOnce(&Asked) -> T) -> T {
     let lines = text::lines(&bytes).expect("lines");
     let program = read(&bytes).expect("a program");
     let record = Record::of(&lines, &program).expect("number 10 does not come up");
-    assert_eq!(record.refusal.map(|refusal| refusal.number), Some(number));
+    assert_eq!(record.refusal.map(|refusal| refusal.number()), Some(number));
     look(record.asked.as_ref().expect("a question"))
 }
 
@@ -61,7 +62,7 @@ fn questions_of_shut() {
     asked(&method("acc this p", "", "shut this p"), 12, |asked| {
         assert_eq!(asked.purpose, Purpose::Shut);
         let path = asked.rest.expect("a path");
-        assert_eq!(asked.state.rest(path), Err(12));
+        assert_eq!(asked.state.rest(path), Err(Reason::NoPermission));
         assert!(asked.read.is_none() && asked.show.is_empty());
     });
     let source = method("read this p eq this.p null", "", "shut this p");
@@ -101,7 +102,7 @@ fn stops_of_a_walk() {
     ];
     for (statements, expected) in cases {
         halted(&format!("{link}{statements}"), |halt| {
-            let found = (halt.number, halt.missing, halt.ring);
+            let found = (halt.stop.number(), halt.missing, halt.ring);
             assert_eq!(found, (24, expected, None), "{statements}");
             assert!(halt.path.is_some());
         });
@@ -117,7 +118,11 @@ fn rings_and_other_stops() {
         ("set t p s\nshut t p", Tested::Nothing, None),
     ] {
         halted(&format!("{link}{statements}"), |halt| {
-            assert_eq!((halt.number, halt.missing), (26, None), "{statements}");
+            assert_eq!(
+                (halt.stop.number(), halt.missing),
+                (26, None),
+                "{statements}"
+            );
             assert_eq!((halt.tested, halt.atom), (tested, atom), "{statements}");
             assert!(halt.ring.is_some(), "{statements}");
         });
@@ -125,9 +130,9 @@ fn rings_and_other_stops() {
     // What `shut` needs of `x.f` itself is no walk's.
     halted("release read s p\nshut s p", |halt| {
         let share = halt.missing.map(|missing| missing.share);
-        assert_eq!((halt.number, share), (24, Some(Share::Acc)));
+        assert_eq!((halt.stop.number(), share), (24, Some(Share::Acc)));
     });
     halted("let s null\nopen u s p", |halt| {
-        assert_eq!((halt.number, halt.path.is_some()), (25, true));
+        assert_eq!((halt.stop.number(), halt.path.is_some()), (25, true));
     });
 }

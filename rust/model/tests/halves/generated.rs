@@ -128,7 +128,7 @@ fn refused(text: &[u8], look: &mut dyn FnMut(&Asked, u32)) {
         return;
     };
     if let (Some(refusal), Some(asked)) = (record.refusal, &record.asked) {
-        look(asked, refusal.number);
+        look(asked, refusal.number());
     }
 }
 
@@ -237,7 +237,7 @@ fn runs_stop_for_want_of_a_half() {
         while machine.steps < 300 && machine.step().is_ok() {}
         let halt = machine
             .halt
-            .filter(|halt| halt.number == PERMISSION_MISSING);
+            .filter(|halt| halt.stop.number() == PERMISSION_MISSING);
         if let Some(missing) = halt.and_then(|halt| halt.missing) {
             let (share, held, taken) = (missing.share, missing.held, missing.taken);
             assert!(held < taken + share.halves());

@@ -5,6 +5,7 @@ use crate::common::{main_with, script};
 use crate::method;
 use model::machine::Machine;
 use model::names::{Atom, Path, FIRST_LOCAL, PARAM, THIS};
+use model::number::Reason;
 use model::state::State;
 use model::text::Share::{self, Acc, Read};
 use model::watch::{Asked, Halt, Missing, Record};
@@ -52,7 +53,7 @@ fn what_is_listed_and_what_a_formula_leaves() {
     assert_eq!(left(&[held(Read, THIS)]), Ok(vec![half, half, half, None]));
     let both = [held(Read, THIS), held(Read, PARAM), held(Read, THIS)];
     assert_eq!(left(&both), Ok(vec![None, None, half, None]));
-    assert_eq!(left(&[held(Acc, PARAM)]), Err(12));
+    assert_eq!(left(&[held(Acc, PARAM)]), Err(Reason::NoPermission));
 }
 
 /// The question of a refusal, with the state that it was put to.
@@ -61,7 +62,7 @@ fn asked<T>(source: &str, look: impl FnOnce(&Asked) -> T) -> T {
     let lines = text::lines(&bytes).expect("lines");
     let program = read(&bytes).expect("a program");
     let record = Record::of(&lines, &program).expect("number 10 does not come up");
-    assert_eq!(record.refusal.map(|refusal| refusal.number), Some(12));
+    assert_eq!(record.refusal.map(|refusal| refusal.number()), Some(12));
     look(record.asked.as_ref().expect("a question"))
 }
 
@@ -117,10 +118,8 @@ fn halted(source: &str) -> (u32, Option<Missing>) {
     let program = read(&text).expect("a program");
     let mut machine = Machine::new(&program);
     while machine.step().is_ok() {}
-    let Halt {
-        number, missing, ..
-    } = machine.halt.expect("a stop");
-    (number, missing)
+    let Halt { stop, missing, .. } = machine.halt.expect("a stop");
+    (stop.number(), missing)
 }
 
 #[test]

@@ -15,3 +15,37 @@ use common::S;
 pub fn method_with(method: &str, lines: &str) -> String {
     format!("{S}{method}\n{lines}\nmain\nend")
 }
+
+/// The papers' numbers, with what stands for each in the model.
+#[test]
+fn numbers() {
+    use model::number::Reason::*;
+    use model::number::Stop::*;
+    let refused = [
+        TooLong,
+        Byte,
+        Form,
+        Limit,
+        Name,
+        Type,
+        Unfinished,
+        Assigned,
+        Unframed,
+        Unresolved,
+        NoPermission,
+        NotShown,
+        StateFull,
+        Unbounded,
+        BoundPassed,
+    ];
+    assert!(refused.map(|reason| reason.number()).into_iter().eq(2..=16));
+    let stopped = [
+        HeapFull,
+        FramesFull,
+        PermissionMissing,
+        NullFollowed,
+        FormulaFalse,
+        Overflow,
+    ];
+    assert!(stopped.map(|stop| stop.number()).into_iter().eq(22..=27));
+}

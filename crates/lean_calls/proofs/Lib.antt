@@ -1,0 +1,5 @@
+pub mod Stuck
+pub mod Above
+pub mod Calling
+pub mod Returning
+pub mod Growing

@@ -1,0 +1,3 @@
+pub mod Bares
+pub mod Finding
+pub mod Following
