@@ -19,6 +19,7 @@ pub mod ReturnSound
 pub mod StepKeeps
 pub mod NeverStuck
 pub mod FrameKept
+pub mod EveryRun
 pub mod ProgramParts
 pub mod NamesInScope
 pub mod ItemsFormed
