@@ -38,7 +38,7 @@ use Rattle.lean_heap.specs.declared.Stop.{Stop}
 use Rattle.lean_heap.specs.declared.Turn.{Turn}
 use Rattle.lean_heap.specs.Ghosts.{Bare, Stands, Unstuck, Follows, Does, CanStep, AtKind, full, stopIn, stopOf}
 use Rattle.lean_heap.proofs.Bares.{half-both, word-both, fill-both, ghost-marked, ghost-holder, ghost-method}
-use Rattle.lean_heap.proofs.Following.{try-ok, check-passes, ghost-ready, ghost-tables, ghost-size, y-is, z-is, member-is, y-small, z-small, frames-fit, fits, kind-is, step-is, on-as, variable-is, does-on, does-stop}
+use Rattle.lean_heap.proofs.Following.{try-ok, check-passes, ghost-ready, ghost-tables, ghost-size, y-is, z-is, member-is, frames-fit, fits, kind-is, step-is, on-as, variable-is, does-on, does-stop}
 use Rattle.lean_calls.specs.Calls.{called, framed}
 use Rattle.lean_calls.proofs.Stuck.{fault-of, not-stopped}
 

@@ -1,5 +1,5 @@
 -- `new`: the same object in both stores; who holds its locations is in the ghost alone.
-use mathlib.Core.Path.{_≡_, refl, sym, ap, _∙_, subst}
+use mathlib.Core.Path.{_≡_, refl, sym, _∙_, subst}
 use mathlib.Core.List.{List}
 use mathlib.Core.Logic.{_⊎_}
 use Prim.Native.Nat.{ℕ, _+_, _*_, _-_, _≤_, _<_}
@@ -11,7 +11,7 @@ use Rattle.rules.specs.Machine.{Config, step}
 use Rattle.rules.specs.Calls.{wholeHeap}
 use Rattle.rules.specs.Lean as Lean
 use Rattle.rules.specs.declared.Machine.{Machine}
-use Rattle.tables.specs.Layout.{frame-variables, values-at, objects-at, frames-at}
+use Rattle.tables.specs.Layout.{values-at, objects-at, frames-at}
 use Rattle.tables.specs.Decode.{xAt, memberAt, fieldCountAt, classCount, programIn}
 use Rattle.tables.specs.Stores.{SameTables, putHalf, putWord}
 use Rattle.tables.proofs.Bytes.{same-trans, put-half-length}

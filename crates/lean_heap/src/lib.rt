@@ -1,7 +1,7 @@
 // The lean machine's stores: heap and frames in the work area without holders, and what an accepted script reads there without a test.
+use run_heap::Stores;
 use tables::Expr;
 use tables::Layout;
-use run_heap::Stores;
 ghost use mathlib.Core.Path.{_≡_};
 ghost use Prim.Native.Nat.{_+_, _-_, _≤_, _<_};
 ghost use lib.ListN.{length};

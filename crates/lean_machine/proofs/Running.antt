@@ -28,11 +28,11 @@ use Rattle.machine.proofs.Running.{begins, begin-tables, ends-are}
 use Rattle.lean_heap.specs.declared.Counters.{Counters}
 use Rattle.lean_heap.specs.declared.Stop.{Stop}
 use Rattle.lean_heap.specs.declared.Turn.{Turn}
-use Rattle.lean_heap.specs.Ghosts.{Stands, Unstuck, Goes, Does, CanStep, stopIn, stopOf}
+use Rattle.lean_heap.specs.Ghosts.{Stands, Unstuck, Goes, Does, CanStep, stopOf}
 use Rattle.lean_heap.proofs.Following.{ghost-tables, tables, row-small, fits, kind-is}
 use Rattle.lean_machine.specs.declared.Ending.{Ending}
 use Rattle.lean_machine.specs.declared.Ran.{Ran}
-use Rattle.lean_machine.specs.Runs.{Accepted, fresh, endingIn, outcomeIn, RanAs}
+use Rattle.lean_machine.specs.Runs.{Accepted, fresh, endingIn, RanAs}
 
 -- MAIN'S VALUES, which the lean stores have as the ghost has them
 words-same : (v w : List ℕ) (a b i n : ℕ) → Kept a b v w → a ≤ i → i + n * 4 ≤ b → words w i n ≡ words v i n

@@ -10,27 +10,25 @@ use Rattle.rules.specs.Limits.{heap-fields}
 use Rattle.rules.specs.Base.{Try, ok, no, _>>=_, _>>_, check}
 use Rattle.rules.specs.Answers.{Stop, nullFollowed, overflow}
 use Rattle.rules.specs.Syntax.{Expr, Formula, path}
-use Rattle.rules.specs.Grammar.{Set, Let, If, Else, Loop, Again, Assert, Join, Release, Open, Shut, statementNumber, loop-kind, isComputing}
+use Rattle.rules.specs.Grammar.{Set, Let, If, Loop, Assert, Join, Release, Open, Shut, statementNumber, loop-kind, isComputing}
 use Rattle.rules.specs.Machine.{Config, Location, Step, on, took, step, bind, valueOf, valueAt, value, locate, takeWalk, footprint, compared, computed, advance, withFrame, setStep, assignStep, ifStep, choose, loopStep, assertStep, releaseStep, openStep, shutStep}
 use Rattle.rules.specs.Calls.{wholeHeap}
 use Rattle.rules.specs.declared.Machine.{Machine}
 use Rattle.soundness.specs.Endings.{MayStop}
 use Rattle.rules.proofs.Tries.{no-ok, bind-ok}
-use Rattle.soundness.proofs.LeanFollows.{Only, locate-only, value-only, takeWalk-only, footprint-only}
+use Rattle.soundness.proofs.LeanFollows.{locate-only, value-only, takeWalk-only, footprint-only}
 use Rattle.tables.specs.Layout.{frame-variables, most-names, most-atom-rows, values-at, holders-at}
 use Rattle.tables.specs.declared.Expr as Tables
 use Rattle.tables.specs.Decode.{byteAt, atomPlace, leftAt, rightAt, relOf, kindAt, operationOf, xAt, yAt, zAt, memberAt, targetAt, firstAtomAt, atomCount, formulaAt, programIn}
-use Rattle.tables.specs.Tables.{SideFits}
-use Rattle.tables.specs.Stores.{SameTables, putWord, meaning}
+use Rattle.tables.specs.Stores.{putWord, meaning}
 use Rattle.tables.proofs.Bytes.{same-refl}
-use Rattle.run_heap.specs.declared.Fault.{Fault}
 use Rattle.run_heap.specs.Views as Views
 use Rattle.run_heap.specs.Views.{frameAt, variableAt, cellValue, spot, readIn, viewOf}
 use Rattle.run_heap.specs.Chains.{walkIn}
-use Rattle.run_footprint.specs.Footprints.{testIn, rightTest, takeIn, spread, SharesFit}
+use Rattle.run_footprint.specs.Footprints.{testIn, rightTest, takeIn, spread}
 use Rattle.run_footprint.proofs.Regions.{only-word, only-tables}
 use Rattle.run_steps.specs.States as States
-use Rattle.run_steps.proofs.Seeing.{FormulaOk, locate-is, value-is, no-footprint, ok-footprint}
+use Rattle.run_steps.proofs.Seeing.{FormulaOk, locate-is, value-is, no-footprint}
 use Rattle.run_steps.proofs.Moves.{sees, moved-on, row-formula-ok}
 use Rattle.run_steps.proofs.Opening.{open-no, open-walk}
 use Rattle.run_steps.proofs.Doing as Steps
@@ -41,7 +39,7 @@ use Rattle.lean_heap.specs.declared.Stop as Lean
 use Rattle.lean_heap.specs.declared.Turn.{Turn}
 use Rattle.lean_heap.specs.Ghosts.{Bare, Stands, Unstuck, Follows, Does, CanStep, AtKind, There, cellIn, valueIn, Readable, full, stepped, stopOf, stopIn}
 use Rattle.lean_heap.proofs.Bares.{word-both, ghost-marked, bare-value}
-use Rattle.lean_heap.proofs.Following.{try-ok, ghost-ready, ghost-tables, ghost-size, fits, x-is, y-is, z-is, member-is, first-is, kind-is, target-is, left-is, right-is, atom-kind-is, step-is, on-as, stop-as, variable-is, path-there, read-there, does-on, does-stop, has-frames, x-small, y-small, z-small, word-tables}
+use Rattle.lean_heap.proofs.Following.{try-ok, ghost-ready, ghost-size, fits, x-is, y-is, z-is, member-is, first-is, kind-is, target-is, left-is, right-is, atom-kind-is, step-is, on-as, stop-as, variable-is, path-there, read-there, does-on, does-stop, has-frames, x-small, y-small, z-small, word-tables}
 use Rattle.lean_steps.specs.Rows.{Passes, Jumps, Chooses, conditionOf}
 
 -- THE GHOST'S STEP
@@ -341,6 +339,10 @@ module _ {w : List ℕ} {c : Counters} (R : CanStep w c) (k : AtKind w c Let) (a
       (word-bare R S b x n eb (x-small R ex)))
 
 -- `open`
+elim-try : {A B : Type 0} (t : Try Stop A) → ((a : A) → t ≡ ok a → B) → ((s : Stop) → t ≡ no s → B) → B
+elim-try (ok a) f g = f a refl
+elim-try (no s) f g = g s refl
+
 check-on :
     (c : Bool) (s : Stop) (t : Try Stop Config) → (MayStop s → ⊥) → Unstuck (took (check c s >> t)) →
     (check c s >> t ≡ t) × Unstuck (took t)
@@ -367,17 +369,13 @@ module _ {w : List ℕ} {c : Counters} (k : AtKind w c Open) (more : c .steps < 
       (withFrame m (advance (bind (xAt (G S) (c .row)) (valueAt (m .heap) o f) (m .frame))), e₁ ∙ rw e₂)
 
   opened : Opened
-  opened = by-spot (spot (G S) (viewOf (M S)) 2 (yAt (G S) (c .row)) (memberAt (G S) (c .row))) refl
-    where
-      by-walk :
-          (j : ℕ) → spot (G S) (viewOf (M S)) 2 (yAt (G S) (c .row)) (memberAt (G S) (c .row)) ≡ ok j → (t : Try Stop ℕ) →
-          walkIn (G S) (viewOf (M S)) (λ _. true) (memberAt (G S) (c .row)) (suc (c .objects)) (cellValue (G S) j) 0 ≡ t → Opened
-      by-walk j e (ok last) q = record { cell = j; is-cell = e; last = last; walked = q }
-      by-walk j e (no s) q = no-ok (sym (open-walk m (sees (S .represents)) (yAt (G S) (c .row)) (memberAt (G S) (c .row)) (fits S .y) (xAt (G S) (c .row)) j s e q) ∙ open-goes .1)
-
-      by-spot : (t : Try Stop ℕ) → spot (G S) (viewOf (M S)) 2 (yAt (G S) (c .row)) (memberAt (G S) (c .row)) ≡ t → Opened
-      by-spot (ok j) e = by-walk j e (walkIn (G S) (viewOf (M S)) (λ _. true) (memberAt (G S) (c .row)) (suc (c .objects)) (cellValue (G S) j) 0) refl
-      by-spot (no s) e = no-ok (sym (open-no m (sees (S .represents)) (yAt (G S) (c .row)) (memberAt (G S) (c .row)) (fits S .y) (xAt (G S) (c .row)) s e) ∙ open-goes .1)
+  opened =
+      elim-try (spot (G S) (viewOf (M S)) 2 (yAt (G S) (c .row)) (memberAt (G S) (c .row)))
+      (λ j e.
+      elim-try (walkIn (G S) (viewOf (M S)) (λ _. true) (memberAt (G S) (c .row)) (suc (c .objects)) (cellValue (G S) j) 0)
+      (λ last q. record { cell = j; is-cell = e; last = last; walked = q })
+      (λ s q. no-ok (sym (open-walk m (sees (S .represents)) _ _ (fits S .y) (xAt (G S) (c .row)) j s e q) ∙ open-goes .1)))
+      (λ s e. no-ok (sym (open-no m (sees (S .represents)) _ _ (fits S .y) (xAt (G S) (c .row)) s e) ∙ open-goes .1))
 
 module _ {w : List ℕ} {c : Counters} (R : CanStep w c) (k : AtKind w c Open) (b x f : ℕ) (eb : b ≡ frameAt (c .frames - 1)) (ex : x ≡ yAt w (c .row)) (ef : f ≡ memberAt w (c .row)) where
   open-there :

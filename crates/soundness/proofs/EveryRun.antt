@@ -1,12 +1,10 @@
 -- The second half of demand 3 of every run of a text, and that runs agree: the statements are those of specs/AnyRun.
 use mathlib.Core.Path.{_≡_, sym, ap, _∙_}
-use Prim.Native.Nat.{ℕ, zero, suc, _≤_}
+use Prim.Native.Nat.{zero, suc}
 use native.Mathlib.Omega.{arith}
 use Rattle.rules.specs.Reading.{program}
-use Rattle.rules.specs.Syntax.{Program}
-use Rattle.rules.specs.Machine.{Config, Room, Step, on, step}
+use Rattle.rules.specs.Machine.{Config, Step, on, step}
 use Rattle.rules.specs.Calls.{wholeHeap}
-use Rattle.rules.specs.Runs.{Run}
 use Rattle.rules.proofs.Disjoint.{two-halves}
 use Rattle.rules.proofs.Chains.{chains-end, chains-handed}
 use Rattle.soundness.specs.AnyRun.{EveryRunKeeps, RunsAgree}

@@ -11,24 +11,39 @@ base-of-requires : tie.Need-base-of-requires
 base-of-requires c κs = search needs
 
 condition-at-requires : tie.Need-condition-at-requires
-condition-at-requires c κs = ((has-size (c .before .before .before .pre .0), has-row (c .before .before .before .pre .0)), loop-first (c .before .before .before .pre .0))
+condition-at-requires c κs =
+    let start = c .before .before .before in
+    ((has-size (start .pre .0), has-row (start .pre .0)), loop-first (start .pre .0))
 
 left-at-requires : tie.Need-left-at-requires
-left-at-requires c κs = (has-size (c .before .before .before .before .pre .0), condition-small (c .before .before .before .before .pre .0) (c .before .before .before .before .pre .1) (c .condition-at .ensures))
+left-at-requires c κs =
+    let start = c .before .before .before .before in
+    (has-size (start .pre .0), condition-small (start .pre .0) (start .pre .1) (c .condition-at .ensures))
 
 value-requires : tie.Need-value-requires
 value-requires c κs =
-    (has-base (c .before .before .before .before .before .pre .0) (c .before .before .base-of .ensures .0), left-readable (c .before .before .before .before .before .pre .0) (c .before .before .before .before .before .pre .1) (c .before .condition-at .ensures) _ _ (c .before .before .base-of .ensures .0) (c .left-at .ensures))
+    let start = c .before .before .before .before .before in
+    let at-base-of = c .before .before .base-of in
+    (has-base (start .pre .0) (at-base-of .ensures .0), left-readable (start .pre .0) (start .pre .1) (c .before .condition-at .ensures) _ _ (at-base-of .ensures .0) (c .left-at .ensures))
 
 right-at-requires : tie.Need-right-at-requires
-right-at-requires c κs = (has-size (c .before .before .before .before .before .before .pre .0), condition-small (c .before .before .before .before .before .before .pre .0) (c .before .before .before .before .before .before .pre .1) (c .before .before .condition-at .ensures))
+right-at-requires c κs =
+    let start = c .before .before .before .before .before .before in
+    let at-condition-at = c .before .before .condition-at in
+    (has-size (start .pre .0), condition-small (start .pre .0) (start .pre .1) (at-condition-at .ensures))
 
 value-requires-2 : tie.Need-value-requires-2
 value-requires-2 c κs =
-    (has-base (c .before .before .before .before .before .before .before .pre .0) (c .before .before .before .before .base-of .ensures .0), right-readable (c .before .before .before .before .before .before .before .pre .0) (c .before .before .before .before .before .before .before .pre .1) (c .before .before .before .condition-at .ensures) _ _ (c .before .before .before .before .base-of .ensures .0) (c .right-at .ensures))
+    let start = c .before .before .before .before .before .before .before in
+    let at-base-of = c .before .before .before .before .base-of in
+    let at-condition-at = c .before .before .before .condition-at in
+    (has-base (start .pre .0) (at-base-of .ensures .0), right-readable (start .pre .0) (start .pre .1) (at-condition-at .ensures) _ _ (at-base-of .ensures .0) (c .right-at .ensures))
 
 atom-kind-requires : tie.Need-atom-kind-requires
-atom-kind-requires c κs = (has-size (c .before .before .before .before .before .before .before .before .pre .0), condition-small (c .before .before .before .before .before .before .before .before .pre .0) (c .before .before .before .before .before .before .before .before .pre .1) (c .before .before .before .before .condition-at .ensures))
+atom-kind-requires c κs =
+    let start = c .before .before .before .before .before .before .before .before in
+    let at-condition-at = c .before .before .before .before .condition-at in
+    (has-size (start .pre .0), condition-small (start .pre .0) (start .pre .1) (at-condition-at .ensures))
 
 compare-requires : tie.Need-compare-requires
 compare-requires c κs = search needs
@@ -41,7 +56,17 @@ next-requires c κs = search needs
 
 returns : tie.Need-returns
 returns c =
-    condition-holds (c .before .before .before .before .before .before .before .before .before .before .before .before .before .pre .0) (c .before .before .before .before .before .before .before .before .before .before .before .before .before .pre .1) (c .before .before .before .before .before .before .before .before .before .condition-at .ensures) _ _ _ _ _ _ _ (c .before .before .before .before .before .before .before .before .before .before .base-of .ensures .0) (c .before .before .before .before .before .before .before .before .left-at .ensures) (c .before .before .before .before .before .before .right-at .ensures) (c .before .before .before .before .before .before .before .value .ensures) (c .before .before .before .before .before .value2 .ensures) (c .before .before .before .before .atom-kind .ensures .0) (c .before .before .before .compare .ensures) (c .before .before .if1 .taken) (c .next .ensures)
+    let start = c .before .before .before .before .before .before .before .before .before .before .before .before .before in
+    let at-base-of = c .before .before .before .before .before .before .before .before .before .before .base-of in
+    let at-condition-at = c .before .before .before .before .before .before .before .before .before .condition-at in
+    let at-left-at = c .before .before .before .before .before .before .before .before .left-at in
+    let at-value = c .before .before .before .before .before .before .before .value in
+    let at-right-at = c .before .before .before .before .before .before .right-at in
+    let at-value2 = c .before .before .before .before .before .value2 in
+    let at-atom-kind = c .before .before .before .before .atom-kind in
+    let at-compare = c .before .before .before .compare in
+    let at-if1 = c .before .before .if1 in
+    condition-holds (start .pre .0) (start .pre .1) (at-condition-at .ensures) _ _ _ _ _ _ _ (at-base-of .ensures .0) (at-left-at .ensures) (at-right-at .ensures) (at-value .ensures) (at-value2 .ensures) (at-atom-kind .ensures .0) (at-compare .ensures) (at-if1 .taken) (c .next .ensures)
 
 target-at-requires : tie.Need-target-at-requires
 target-at-requires c κs = search needs
@@ -54,7 +79,17 @@ next-requires-2 c κs = search needs
 
 returns-2 : tie.Need-returns-2
 returns-2 c =
-    condition-fails (c .before .before .before .before .before .before .before .before .before .before .before .before .before .pre .0) (c .before .before .before .before .before .before .before .before .before .before .before .before .before .pre .1) (c .before .before .before .before .before .before .before .before .before .condition-at .ensures) _ _ _ _ _ _ _ (c .before .before .before .before .before .before .before .before .before .before .base-of .ensures .0) (c .before .before .before .before .before .before .before .before .left-at .ensures) (c .before .before .before .before .before .before .right-at .ensures) (c .before .before .before .before .before .before .before .value .ensures) (c .before .before .before .before .before .value2 .ensures) (c .before .before .before .before .atom-kind .ensures .0) (c .before .before .before .compare .ensures) (c .before .before .if1 .left) _ (c .before .target-at .ensures .0) (c .next2 .ensures)
+    let start = c .before .before .before .before .before .before .before .before .before .before .before .before .before in
+    let at-base-of = c .before .before .before .before .before .before .before .before .before .before .base-of in
+    let at-condition-at = c .before .before .before .before .before .before .before .before .before .condition-at in
+    let at-left-at = c .before .before .before .before .before .before .before .before .left-at in
+    let at-value = c .before .before .before .before .before .before .before .value in
+    let at-right-at = c .before .before .before .before .before .before .right-at in
+    let at-value2 = c .before .before .before .before .before .value2 in
+    let at-atom-kind = c .before .before .before .before .atom-kind in
+    let at-compare = c .before .before .before .compare in
+    let at-if1 = c .before .before .if1 in
+    condition-fails (start .pre .0) (start .pre .1) (at-condition-at .ensures) _ _ _ _ _ _ _ (at-base-of .ensures .0) (at-left-at .ensures) (at-right-at .ensures) (at-value .ensures) (at-value2 .ensures) (at-atom-kind .ensures .0) (at-compare .ensures) (at-if1 .left) _ (c .before .target-at .ensures .0) (c .next2 .ensures)
 
 pub choose-step-spec : {M : Type 1} → statement M
 choose-step-spec =

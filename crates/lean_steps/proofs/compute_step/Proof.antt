@@ -1,3 +1,4 @@
+use Prim.Native.Nat.{_<_}
 use Rattle.run_numbers.proofs.Computing.{has-value, has-none}
 use native.Mathlib.Omega.{arith}
 use Rattle.lean_heap.proofs.Following.{has-row, has-base, y-small, z-small}
@@ -16,13 +17,19 @@ y-at-requires : tie.Need-y-at-requires
 y-at-requires c κs = search needs
 
 variable-requires : tie.Need-variable-requires
-variable-requires c κs = (has-base (c .before .before .before .before .before .pre .0) (c .before .before .base-of .ensures .0), y-small (c .before .before .before .before .before .pre .0) (c .y-at .ensures .0))
+variable-requires c κs =
+    let start = c .before .before .before .before .before in
+    let at-base-of = c .before .before .base-of in
+    (has-base (start .pre .0) (at-base-of .ensures .0), y-small (start .pre .0) (c .y-at .ensures .0))
 
 z-at-requires : tie.Need-z-at-requires
 z-at-requires c κs = search needs
 
 variable-requires-2 : tie.Need-variable-requires-2
-variable-requires-2 c κs = (has-base (c .before .before .before .before .before .before .before .before .pre .0) (c .before .before .before .before .before .base-of .ensures .0), z-small (c .before .before .before .before .before .before .before .before .pre .0) (c .z-at .ensures .0))
+variable-requires-2 c κs =
+    let start = c .before .before .before .before .before .before .before .before in
+    let at-base-of = c .before .before .before .before .before .base-of in
+    (has-base (start .pre .0) (at-base-of .ensures .0), z-small (start .pre .0) (c .z-at .ensures .0))
 
 kind-at-requires : tie.Need-kind-at-requires
 kind-at-requires c κs = search needs
@@ -46,7 +53,9 @@ put-word-requires : tie.Need-put-word-requires
 put-word-requires c κs = search needs
 
 add-next : tie.Need-add-next
-add-next c = omega (arith, has-row (c .before .before .before .before .before .before .before .before .before .before .before .before .before .before .before .before .before .before .before .before .before .before .pre .0))
+add-next c =
+    let start = c .before .before .before .before .before .before .before .before .before .before .before .before .before .before .before .before .before .before .before .before .before .before in
+    omega (arith, has-row (start .pre .0))
 
 next-requires : tie.Need-next-requires
 next-requires c κs = search needs
@@ -59,14 +68,35 @@ same-length c = search needs
 
 returns : tie.Need-returns
 returns c =
-    compute-does (c .before .before .before .before .before .before .before .before .before .before .before .before .before .before .before .before .before .before .before .before .before .before .before .pre .0) (c .before .before .before .before .before .before .before .before .before .before .before .before .before .before .before .before .before .before .before .before .before .before .before .pre .1) _ _ _ _ _ _ (c .before .before .before .before .before .before .before .before .before .before .before .before .before .before .before .before .before .before .before .before .base-of .ensures .0) (c .before .before .before .before .before .before .before .before .before .before .before .before .before .before .before .before .before .before .y-at .ensures .0) (c .before .before .before .before .before .before .before .before .before .before .before .before .before .before .before .z-at .ensures .0) (c .before .before .before .before .before .before .before .before .before .before .before .before .kind-at .ensures) (c .before .before .before .before .before .before .before .before .before .before .before .before .before .before .before .before .before .variable .ensures) (c .before .before .before .before .before .before .before .before .before .before .before .before .before .before .variable2 .ensures) _ _ (c .before .before .before .before .before .before .x-at .ensures .0) (search needs) (has-value _ (c .before .before .before .before .before .before .before .before .before .before .before .compute .ensures) _ (c .before .before .before .before .before .before .before .before .before .n .given .1)) (c .before .before .before .before .put-word .ensures) (c .next .ensures)
+    let n-fits : c .before .before .before .before .before .before .before .before .before .n .given .0 .0 < 4294967296 = search needs in
+    let start = c .before .before .before .before .before .before .before .before .before .before .before .before .before .before .before .before .before .before .before .before .before .before .before in
+    let at-base-of = c .before .before .before .before .before .before .before .before .before .before .before .before .before .before .before .before .before .before .before .before .base-of in
+    let at-y-at = c .before .before .before .before .before .before .before .before .before .before .before .before .before .before .before .before .before .before .y-at in
+    let at-variable = c .before .before .before .before .before .before .before .before .before .before .before .before .before .before .before .before .before .variable in
+    let at-z-at = c .before .before .before .before .before .before .before .before .before .before .before .before .before .before .before .z-at in
+    let at-variable2 = c .before .before .before .before .before .before .before .before .before .before .before .before .before .before .variable2 in
+    let at-kind-at = c .before .before .before .before .before .before .before .before .before .before .before .before .kind-at in
+    let at-compute = c .before .before .before .before .before .before .before .before .before .before .before .compute in
+    let at-n = c .before .before .before .before .before .before .before .before .before .n in
+    let at-x-at = c .before .before .before .before .before .before .x-at in
+    let at-put-word = c .before .before .before .before .put-word in
+    compute-does (start .pre .0) (start .pre .1) _ _ _ _ _ _ (at-base-of .ensures .0) (at-y-at .ensures .0) (at-z-at .ensures .0) (at-kind-at .ensures) (at-variable .ensures) (at-variable2 .ensures)
+    _ _ (at-x-at .ensures .0) n-fits (has-value _ (at-compute .ensures) _ (at-n .given .1)) (at-put-word .ensures) (c .next .ensures)
 
 same-length-2 : tie.Need-same-length-2
 same-length-2 c = search needs
 
 returns-2 : tie.Need-returns-2
 returns-2 c =
-    compute-stops (c .before .before .before .before .before .before .before .before .before .before .before .before .before .before .pre .0) (c .before .before .before .before .before .before .before .before .before .before .before .before .before .before .pre .1) _ _ _ _ _ _ (c .before .before .before .before .before .before .before .before .before .before .before .base-of .ensures .0) (c .before .before .before .before .before .before .before .before .before .y-at .ensures .0) (c .before .before .before .before .before .before .z-at .ensures .0) (c .before .before .before .kind-at .ensures) (c .before .before .before .before .before .before .before .before .variable .ensures) (c .before .before .before .before .before .variable2 .ensures) (has-none _ (c .before .before .compute .ensures) (c .enum-told .given .1))
+    let start = c .before .before .before .before .before .before .before .before .before .before .before .before .before .before in
+    let at-base-of = c .before .before .before .before .before .before .before .before .before .before .before .base-of in
+    let at-y-at = c .before .before .before .before .before .before .before .before .before .y-at in
+    let at-variable = c .before .before .before .before .before .before .before .before .variable in
+    let at-z-at = c .before .before .before .before .before .before .z-at in
+    let at-variable2 = c .before .before .before .before .before .variable2 in
+    let at-kind-at = c .before .before .before .kind-at in
+    let at-compute = c .before .before .compute in
+    compute-stops (start .pre .0) (start .pre .1) _ _ _ _ _ _ (at-base-of .ensures .0) (at-y-at .ensures .0) (at-z-at .ensures .0) (at-kind-at .ensures) (at-variable .ensures) (at-variable2 .ensures) (has-none _ (at-compute .ensures) (c .enum-told .given .1))
 
 pub compute-step-spec : {M : Type 1} → statement M
 compute-step-spec =

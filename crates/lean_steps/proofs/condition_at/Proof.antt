@@ -14,7 +14,10 @@ kind-at-requires : tie.Need-kind-at-requires
 kind-at-requires c κs = search needs
 
 sub-result : tie.Need-sub-result
-sub-result c = omega (arith, c .before .before .first-atom-at .ensures .0, c .before .before .before .before .pre .1 (sym (c .before .kind-at .ensures) ∙ c .if1 .taken))
+sub-result c =
+    let start = c .before .before .before .before in
+    let at-first-atom-at = c .before .before .first-atom-at in
+    omega (arith, at-first-atom-at .ensures .0, start .pre .1 (sym (c .before .kind-at .ensures) ∙ c .if1 .taken))
 
 returns : tie.Need-returns
 unfolding conditionOf

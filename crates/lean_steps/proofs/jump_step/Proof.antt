@@ -16,7 +16,9 @@ next-requires : tie.Need-next-requires
 next-requires c κs = search needs
 
 returns : tie.Need-returns
-returns c = jump-does (c .before .before .before .before .pre .0) (c .before .before .before .before .pre .1) _ (c .before .target-at .ensures .0) (c .next .ensures)
+returns c =
+    let start = c .before .before .before .before in
+    jump-does (start .pre .0) (start .pre .1) _ (c .before .target-at .ensures .0) (c .next .ensures)
 
 pub jump-step-spec : {M : Type 1} → statement M
 jump-step-spec = tie.close (tie.spec cast-row target-at-requires cast-next next-requires returns)

@@ -14,11 +14,16 @@ first-atom-at-requires : tie.Need-first-atom-at-requires
 first-atom-at-requires c κs = search needs
 
 right-at-requires : tie.Need-right-at-requires
-right-at-requires c κs = (has-size (c .before .before .before .before .before .before .pre .0), let-small (c .before .before .before .before .before .before .pre .0) (c .before .before .before .before .before .before .pre .1) _ (c .before .first-atom-at .ensures .0))
+right-at-requires c κs =
+    let start = c .before .before .before .before .before .before in
+    (has-size (start .pre .0), let-small (start .pre .0) (start .pre .1) _ (c .before .first-atom-at .ensures .0))
 
 value-requires : tie.Need-value-requires
 value-requires c κs =
-    (has-base (c .before .before .before .before .before .before .before .pre .0) (c .before .before .before .before .base-of .ensures .0), let-readable (c .before .before .before .before .before .before .before .pre .0) (c .before .before .before .before .before .before .before .pre .1) _ _ _ (c .before .before .first-atom-at .ensures .0) (c .before .before .before .before .base-of .ensures .0) (c .right-at .ensures))
+    let start = c .before .before .before .before .before .before .before in
+    let at-base-of = c .before .before .before .before .base-of in
+    let at-first-atom-at = c .before .before .first-atom-at in
+    (has-base (start .pre .0) (at-base-of .ensures .0), let-readable (start .pre .0) (start .pre .1) _ _ _ (at-first-atom-at .ensures .0) (at-base-of .ensures .0) (c .right-at .ensures))
 
 x-at-requires : tie.Need-x-at-requires
 x-at-requires c κs = search needs
@@ -43,7 +48,14 @@ same-length c = search needs
 
 returns : tie.Need-returns
 returns c =
-    let-does (c .before .before .before .before .before .before .before .before .before .before .before .before .before .before .before .before .pre .0) (c .before .before .before .before .before .before .before .before .before .before .before .before .before .before .before .before .pre .1) _ _ _ (c .before .before .before .before .before .before .before .before .before .before .before .first-atom-at .ensures .0) (c .before .before .before .before .before .before .before .before .before .before .before .before .before .base-of .ensures .0) (c .before .before .before .before .before .before .before .before .before .right-at .ensures) _ _ (c .before .before .before .before .before .before .before .before .value .ensures) (search needs) (c .before .before .before .before .before .before .x-at .ensures .0) (c .before .before .before .before .put-word .ensures) (c .next .ensures)
+    let start = c .before .before .before .before .before .before .before .before .before .before .before .before .before .before .before .before in
+    let at-base-of = c .before .before .before .before .before .before .before .before .before .before .before .before .before .base-of in
+    let at-first-atom-at = c .before .before .before .before .before .before .before .before .before .before .before .first-atom-at in
+    let at-right-at = c .before .before .before .before .before .before .before .before .before .right-at in
+    let at-value = c .before .before .before .before .before .before .before .before .value in
+    let at-x-at = c .before .before .before .before .before .before .x-at in
+    let at-put-word = c .before .before .before .before .put-word in
+    let-does (start .pre .0) (start .pre .1) _ _ _ (at-first-atom-at .ensures .0) (at-base-of .ensures .0) (at-right-at .ensures) _ _ (at-value .ensures) (search needs) (at-x-at .ensures .0) (at-put-word .ensures) (c .next .ensures)
 
 pub let-step-spec : {M : Type 1} → statement M
 let-step-spec =

@@ -18,7 +18,10 @@ member-at-requires c κs = search needs
 
 path-value-requires : tie.Need-path-value-requires
 path-value-requires c κs =
-    let o = open-operands (c .before .before .before .before .before .before .before .before .pre .0) (c .before .before .before .before .before .before .before .before .pre .1) _ _ _ (c .before .before .before .before .before .base-of .ensures .0) (c .before .before .before .y-at .ensures .0) (c .before .member-at .ensures .0) in ((has-base (c .before .before .before .before .before .before .before .before .pre .0) (c .before .before .before .before .before .base-of .ensures .0), o .0), o .1)
+    let start = c .before .before .before .before .before .before .before .before in
+    let at-base-of = c .before .before .before .before .before .base-of in
+    let at-y-at = c .before .before .before .y-at in
+    let o = open-operands (start .pre .0) (start .pre .1) _ _ _ (at-base-of .ensures .0) (at-y-at .ensures .0) (c .before .member-at .ensures .0) in ((has-base (start .pre .0) (at-base-of .ensures .0), o .0), o .1)
 
 x-at-requires : tie.Need-x-at-requires
 x-at-requires c κs = search needs
@@ -43,7 +46,14 @@ same-length c = search needs
 
 returns : tie.Need-returns
 returns c =
-    open-does (c .before .before .before .before .before .before .before .before .before .before .before .before .before .before .before .before .before .pre .0) (c .before .before .before .before .before .before .before .before .before .before .before .before .before .before .before .before .before .pre .1) _ _ _ (c .before .before .before .before .before .before .before .before .before .before .before .before .before .before .base-of .ensures .0) (c .before .before .before .before .before .before .before .before .before .before .before .before .y-at .ensures .0) (c .before .before .before .before .before .before .before .before .before .before .member-at .ensures .0) _ _ (c .before .before .before .before .before .before .before .before .path-value .ensures) (search needs) (c .before .before .before .before .before .before .x-at .ensures .0) (c .before .before .before .before .put-word .ensures) (c .next .ensures)
+    let start = c .before .before .before .before .before .before .before .before .before .before .before .before .before .before .before .before .before in
+    let at-base-of = c .before .before .before .before .before .before .before .before .before .before .before .before .before .before .base-of in
+    let at-y-at = c .before .before .before .before .before .before .before .before .before .before .before .before .y-at in
+    let at-member-at = c .before .before .before .before .before .before .before .before .before .before .member-at in
+    let at-path-value = c .before .before .before .before .before .before .before .before .path-value in
+    let at-x-at = c .before .before .before .before .before .before .x-at in
+    let at-put-word = c .before .before .before .before .put-word in
+    open-does (start .pre .0) (start .pre .1) _ _ _ (at-base-of .ensures .0) (at-y-at .ensures .0) (at-member-at .ensures .0) _ _ (at-path-value .ensures) (search needs) (at-x-at .ensures .0) (at-put-word .ensures) (c .next .ensures)
 
 pub open-step-spec : {M : Type 1} → statement M
 open-step-spec =

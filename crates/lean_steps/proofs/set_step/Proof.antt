@@ -18,17 +18,28 @@ member-at-requires : tie.Need-member-at-requires
 member-at-requires c κs = search needs
 
 variable-requires : tie.Need-variable-requires
-variable-requires c κs = (has-base (c .before .before .before .before .before .before .before .before .pre .0) (c .before .before .before .before .before .base-of .ensures .0), x-small (c .before .before .before .before .before .before .before .before .pre .0) (c .before .before .before .x-at .ensures .0))
+variable-requires c κs =
+    let start = c .before .before .before .before .before .before .before .before in
+    let at-base-of = c .before .before .before .before .before .base-of in
+    let at-x-at = c .before .before .before .x-at in
+    (has-base (start .pre .0) (at-base-of .ensures .0), x-small (start .pre .0) (at-x-at .ensures .0))
 
 cell-of-requires : tie.Need-cell-of-requires
 cell-of-requires c κs =
-    set-operands (c .before .before .before .before .before .before .before .before .before .before .pre .0) (c .before .before .before .before .before .before .before .before .before .before .pre .1) _ _ _ (c .before .before .before .before .before .before .before .base-of .ensures .0) (c .before .before .before .before .before .x-at .ensures .0) (c .before .before .before .member-at .ensures .0) _ (c .before .variable .ensures)
+    let start = c .before .before .before .before .before .before .before .before .before .before in
+    let at-base-of = c .before .before .before .before .before .before .before .base-of in
+    let at-x-at = c .before .before .before .before .before .x-at in
+    let at-member-at = c .before .before .before .member-at in
+    set-operands (start .pre .0) (start .pre .1) _ _ _ (at-base-of .ensures .0) (at-x-at .ensures .0) (at-member-at .ensures .0) _ (c .before .variable .ensures)
 
 y-at-requires : tie.Need-y-at-requires
 y-at-requires c κs = search needs
 
 variable-requires-2 : tie.Need-variable-requires-2
-variable-requires-2 c κs = (has-base (c .before .before .before .before .before .before .before .before .before .before .before .before .before .before .pre .0) (c .before .before .before .before .before .before .before .before .before .before .before .base-of .ensures .0), y-small (c .before .before .before .before .before .before .before .before .before .before .before .before .before .before .pre .0) (c .before .y-at .ensures .0))
+variable-requires-2 c κs =
+    let start = c .before .before .before .before .before .before .before .before .before .before .before .before .before .before in
+    let at-base-of = c .before .before .before .before .before .before .before .before .before .before .before .base-of in
+    (has-base (start .pre .0) (at-base-of .ensures .0), y-small (start .pre .0) (c .before .y-at .ensures .0))
 
 mul-put-word : tie.Need-mul-put-word
 mul-put-word c = search needs
@@ -40,7 +51,9 @@ put-word-requires : tie.Need-put-word-requires
 put-word-requires c κs = search needs
 
 add-next : tie.Need-add-next
-add-next c = omega (arith, has-row (c .before .before .before .before .before .before .before .before .before .before .before .before .before .before .before .before .before .before .before .before .pre .0))
+add-next c =
+    let start = c .before .before .before .before .before .before .before .before .before .before .before .before .before .before .before .before .before .before .before .before in
+    omega (arith, has-row (start .pre .0))
 
 next-requires : tie.Need-next-requires
 next-requires c κs = search needs
@@ -50,7 +63,16 @@ same-length c = search needs
 
 returns : tie.Need-returns
 returns c =
-    set-does (c .before .before .before .before .before .before .before .before .before .before .before .before .before .before .before .before .before .before .before .before .before .pre .0) (c .before .before .before .before .before .before .before .before .before .before .before .before .before .before .before .before .before .before .before .before .before .pre .1) _ _ _ (c .before .before .before .before .before .before .before .before .before .before .before .before .before .before .before .before .before .before .base-of .ensures .0) (c .before .before .before .before .before .before .before .before .before .before .before .before .before .before .before .before .x-at .ensures .0) (c .before .before .before .before .before .before .before .before .before .before .before .before .before .before .member-at .ensures .0) _ _ _ _ (c .before .before .before .before .before .before .before .before .before .before .before .before .variable .ensures) (c .before .before .before .before .before .before .before .before .before .before .cell-of .ensures .0) (c .before .before .before .before .before .before .before .before .before .before .cell-of .ensures .1) (c .before .before .before .before .before .before .before .before .y-at .ensures .0) (c .before .before .before .before .before .before .variable2 .ensures) (search needs) (c .before .before .before .before .put-word .ensures) (c .next .ensures)
+    let start = c .before .before .before .before .before .before .before .before .before .before .before .before .before .before .before .before .before .before .before .before .before in
+    let at-base-of = c .before .before .before .before .before .before .before .before .before .before .before .before .before .before .before .before .before .before .base-of in
+    let at-x-at = c .before .before .before .before .before .before .before .before .before .before .before .before .before .before .before .before .x-at in
+    let at-member-at = c .before .before .before .before .before .before .before .before .before .before .before .before .before .before .member-at in
+    let at-variable = c .before .before .before .before .before .before .before .before .before .before .before .before .variable in
+    let at-cell-of = c .before .before .before .before .before .before .before .before .before .before .cell-of in
+    let at-y-at = c .before .before .before .before .before .before .before .before .y-at in
+    let at-variable2 = c .before .before .before .before .before .before .variable2 in
+    let at-put-word = c .before .before .before .before .put-word in
+    set-does (start .pre .0) (start .pre .1) _ _ _ (at-base-of .ensures .0) (at-x-at .ensures .0) (at-member-at .ensures .0) _ _ _ _ (at-variable .ensures) (at-cell-of .ensures .0) (at-cell-of .ensures .1) (at-y-at .ensures .0) (at-variable2 .ensures) (search needs) (at-put-word .ensures) (c .next .ensures)
 
 pub set-step-spec : {M : Type 1} → statement M
 set-step-spec =
