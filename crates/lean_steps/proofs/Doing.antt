@@ -368,8 +368,8 @@ module _ {w : List ℕ} {c : Counters} (k : AtKind w c Open) (more : c .steps < 
       let (A, e₂, _) = try-ok (takeWalk (m .heap) (m .frame) f o []) _ _ (takeWalk-only (m .heap) (m .frame) f o []) u₁ in
       (withFrame m (advance (bind (xAt (G S) (c .row)) (valueAt (m .heap) o f) (m .frame))), e₁ ∙ rw e₂)
 
-  opened : Opened
-  opened =
+  whole-walk : Opened
+  whole-walk =
       elim-try (spot (G S) (viewOf (M S)) 2 (yAt (G S) (c .row)) (memberAt (G S) (c .row)))
       (λ j e.
       elim-try (walkIn (G S) (viewOf (M S)) (λ _. true) (memberAt (G S) (c .row)) (suc (c .objects)) (cellValue (G S) j) 0)
@@ -380,9 +380,9 @@ module _ {w : List ℕ} {c : Counters} (k : AtKind w c Open) (more : c .steps < 
 module _ {w : List ℕ} {c : Counters} (R : CanStep w c) (k : AtKind w c Open) (b x f : ℕ) (eb : b ≡ frameAt (c .frames - 1)) (ex : x ≡ yAt w (c .row)) (ef : f ≡ memberAt w (c .row)) where
   open-there :
       (m : Config) (S : Stands w c m) (U : Unstuck (step wholeHeap (programIn w) m)) →
-      There w (variableAt w b x) f × (cellIn w (variableAt w b x) f ≡ opened k (R .more) m S U .cell) × (opened k (R .more) m S U .cell < heap-fields)
+      There w (variableAt w b x) f × (cellIn w (variableAt w b x) f ≡ whole-walk k (R .more) m S U .cell) × (whole-walk k (R .more) m S U .cell < heap-fields)
   open-there m S U =
-      rw (eb, ex ∙ y-is S, ef ∙ member-is S) (path-there S 2 _ _ _ (fits S .y) (opened k (R .more) m S U .is-cell))
+      rw (eb, ex ∙ y-is S, ef ∙ member-is S) (path-there S 2 _ _ _ (fits S .y) (whole-walk k (R .more) m S U .is-cell))
 
   pub open-operands : (x < frame-variables) × ((f < most-names) × There w (variableAt w b x) f)
   unfolding statementNumber
@@ -401,7 +401,7 @@ module _ {w : List ℕ} {c : Counters} (R : CanStep w c) (k : AtKind w c Open) (
   open-does y n en ln ey p q =
       does-on p q (word-tables R b y n eb (x-small R ey))
       (λ m S U.
-      let O = opened k (R .more) m S U in
+      let O = whole-walk k (R .more) m S U in
       let (_, i, l) = open-there m S U in
       let n′ : n ≡ cellValue (G S) (O .cell) = en ∙ (ap (cellValue w) i ∙ bare-value (S .bare) (O .cell) l) in
       let H : States.Opening (G S) (M S) (memberAt (G S) (c .row)) (O .cell) =

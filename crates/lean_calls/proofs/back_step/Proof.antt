@@ -63,7 +63,7 @@ same-length c = search needs
 
 returns-2 : tie.Need-returns-2
 returns-2 c =
-    let at-before = c .before .before .before .before .before .before .before .before .before .before .before .before .before .before .before .before .before .before .before .before in
+    let start = c .before .before .before .before .before .before .before .before .before .before .before .before .before .before .before .before .before .before .before in
     let at-if1 = c .before .before .before .before .before .before .before .before .before .before .before .before .before .before .before .before .if1 in
     let at-base-of = c .before .before .before .before .before .before .before .before .before .before .before .before .before .before .before .base-of in
     let at-source = c .before .before .before .before .before .before .before .before .before .before .before .before .source in
@@ -71,7 +71,7 @@ returns-2 c =
     let at-saved-row = c .before .before .before .before .before .before .before .saved-row in
     let at-x-at = c .before .before .before .before .before .x-at in
     let at-put-word = c .before .before .before .put-word in
-    let start = at-before in let at-if1 = at-if1 in let at-base-of = at-base-of in let at-source = at-source in let at-variable = at-variable in let at-saved-row = at-saved-row in let at-x-at = at-x-at in let at-put-word = at-put-word in back-does (start .pre .1) (start .pre .0) _ _ _ _ _ (at-if1 .left) (at-base-of .ensures .0) (at-source .ensures) (at-variable .ensures) (search needs) (at-saved-row .ensures .0) (at-x-at .ensures .0) (at-put-word .ensures) (c .back-in .ensures)
+    back-does (start .pre .1) (start .pre .0) _ _ _ _ _ (at-if1 .left) (at-base-of .ensures .0) (at-source .ensures) (at-variable .ensures) (search needs) (at-saved-row .ensures .0) (at-x-at .ensures .0) (at-put-word .ensures) (c .back-in .ensures)
 
 pub back-step-spec : {M : Type 1} → statement M
 back-step-spec =

@@ -56,7 +56,7 @@ same-length c = search needs
 
 returns-2 : tie.Need-returns-2
 returns-2 c =
-    let at-before = c .before .before .before .before .before .before .before .before .before .before .before .before .before .before .before .before .before .before .before .before .before .before .before in
+    let start = c .before .before .before .before .before .before .before .before .before .before .before .before .before .before .before .before .before .before .before .before .before .before in
     let at-if1 = c .before .before .before .before .before .before .before .before .before .before .before .before .before .before .before .before .before .before .before .if1 in
     let at-base-of = c .before .before .before .before .before .before .before .before .before .before .before .before .before .before .before .before .before .base-of in
     let at-y-at = c .before .before .before .before .before .before .before .before .before .before .before .before .before .before .before .y-at in
@@ -66,7 +66,7 @@ returns-2 c =
     let at-member-at = c .before .before .before .before .before .before .before .member-at in
     let at-first-row-at = c .before .before .before .before .before .first-row-at in
     let at-prepare = c .before .before .before .prepare in
-    let start = at-before in let at-if1 = at-if1 in let at-base-of = at-base-of in let at-y-at = at-y-at in let at-variable = at-variable in let at-z-at = at-z-at in let at-variable2 = at-variable2 in let at-member-at = at-member-at in let at-first-row-at = at-first-row-at in let at-prepare = at-prepare in call-does (start .pre .1) (start .pre .0) _ _ _ _ _ _ _ (at-if1 .left) (at-base-of .ensures .0) (at-y-at .ensures .0) (at-variable .ensures) (search needs) (at-z-at .ensures .0) (at-variable2 .ensures) (search needs) (at-member-at .ensures .0) (at-first-row-at .ensures .0) (at-prepare .ensures) (c .call-in .ensures)
+    call-does (start .pre .1) (start .pre .0) _ _ _ _ _ _ _ (at-if1 .left) (at-base-of .ensures .0) (at-y-at .ensures .0) (at-variable .ensures) (search needs) (at-z-at .ensures .0) (at-variable2 .ensures) (search needs) (at-member-at .ensures .0) (at-first-row-at .ensures .0) (at-prepare .ensures) (c .call-in .ensures)
 
 pub call-step-spec : {M : Type 1} → statement M
 call-step-spec =

@@ -80,7 +80,7 @@ add-put-word-2 c = search needs
 
 put-word-requires : tie.Need-put-word-requires
 put-word-requires c κs =
-    let at-before = c .before .before .before .before .before .before .before .before .before .before .before .before .before .before .before .before .before .before .before .before .before .before in
+    let start = c .before .before .before .before .before .before .before .before .before .before .before .before .before .before .before .before .before .before .before .before .before in
     let at-member-at = c .before .before .before .before .before .before .before .before .before .before .before .before .before .before .before .before .before .member-at in
     let at-field-count-at = c .before .before .before .before .before .before .before .before .before .before .before .before .before .before .before .field-count-at in
     let at-if1 = c .before .before .before .before .before .before .before .before .before .before .before .before .before .if1 in
@@ -88,24 +88,24 @@ put-word-requires c κs =
     let at-base-of = c .before .before .before .before .before .before .before .before .before .before .base-of in
     let at-x-at = c .before .before .before .before .before .before .before .before .x-at in
     let at-make-object = c .before .before .before .before .make-object in
-    let start = at-before in let at-member-at = at-member-at in let at-field-count-at = at-field-count-at in let at-if1 = at-if1 in let at-if2 = at-if2 in let at-base-of = at-base-of in let at-x-at = at-x-at in let at-make-object = at-make-object in omega (arith, at-base-of .ensures .1, x-small (start .pre .0) (at-x-at .ensures .0), made-length (start .pre .1) (start .pre .0) _ (at-member-at .ensures .0) _ (at-field-count-at .ensures .0) (at-if1 .left) (at-if2 .left) (at-make-object .ensures), has-size (start .pre .0))
+    omega (arith, at-base-of .ensures .1, x-small (start .pre .0) (at-x-at .ensures .0), made-length (start .pre .1) (start .pre .0) _ (at-member-at .ensures .0) _ (at-field-count-at .ensures .0) (at-if1 .left) (at-if2 .left) (at-make-object .ensures), has-size (start .pre .0))
 
 cast-grow : tie.Need-cast-grow
 cast-grow c = search needs
 
 grow-requires : tie.Need-grow-requires
 grow-requires c κs =
-    let at-before = c .before .before .before .before .before .before .before .before .before .before .before .before .before .before .before .before .before .before .before .before .before .before .before .before .before in
+    let start = c .before .before .before .before .before .before .before .before .before .before .before .before .before .before .before .before .before .before .before .before .before .before .before .before in
     let at-if1 = c .before .before .before .before .before .before .before .before .before .before .before .before .before .before .before .before .if1 in
     let at-if2 = c .before .before .before .before .before .before .before .before .before .before .before .before .before .before .if2 in
-    let start = at-before in let at-if1 = at-if1 in let at-if2 = at-if2 in (start .pre .0 .more, (at-if1 .left, (at-if2 .left, has-row (start .pre .0))))
+    (start .pre .0 .more, (at-if1 .left, (at-if2 .left, has-row (start .pre .0))))
 
 same-length-3 : tie.Need-same-length-3
 same-length-3 c = search needs
 
 returns-3 : tie.Need-returns-3
 returns-3 c =
-    let at-before = c .before .before .before .before .before .before .before .before .before .before .before .before .before .before .before .before .before .before .before .before .before .before .before .before .before .before in
+    let start = c .before .before .before .before .before .before .before .before .before .before .before .before .before .before .before .before .before .before .before .before .before .before .before .before .before in
     let at-member-at = c .before .before .before .before .before .before .before .before .before .before .before .before .before .before .before .before .before .before .before .before .before .member-at in
     let at-field-count-at = c .before .before .before .before .before .before .before .before .before .before .before .before .before .before .before .before .before .before .before .field-count-at in
     let at-if1 = c .before .before .before .before .before .before .before .before .before .before .before .before .before .before .before .before .before .if1 in
@@ -114,7 +114,7 @@ returns-3 c =
     let at-x-at = c .before .before .before .before .before .before .before .before .before .before .before .before .x-at in
     let at-make-object = c .before .before .before .before .before .before .before .before .make-object in
     let at-put-word = c .before .before .before .put-word in
-    let start = at-before in let at-member-at = at-member-at in let at-field-count-at = at-field-count-at in let at-if1 = at-if1 in let at-if2 = at-if2 in let at-base-of = at-base-of in let at-x-at = at-x-at in let at-make-object = at-make-object in let at-put-word = at-put-word in new-does (start .pre .1) (start .pre .0) _ (at-member-at .ensures .0) _ (at-field-count-at .ensures .0) (at-if1 .left) (at-if2 .left) (at-make-object .ensures) _ _ (at-base-of .ensures .0) (at-x-at .ensures .0) (at-put-word .ensures) (c .grow .ensures)
+    new-does (start .pre .1) (start .pre .0) _ (at-member-at .ensures .0) _ (at-field-count-at .ensures .0) (at-if1 .left) (at-if2 .left) (at-make-object .ensures) _ _ (at-base-of .ensures .0) (at-x-at .ensures .0) (at-put-word .ensures) (c .grow .ensures)
 
 pub new-step-spec : {M : Type 1} → statement M
 new-step-spec =

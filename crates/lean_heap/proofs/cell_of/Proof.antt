@@ -34,8 +34,7 @@ half-at-requires c κs = omega (arith, there-object (c .before .before .pre .0) 
 place-at-requires : tie.Need-place-at-requires
 unfolding classIn
 place-at-requires c κs =
-    let start = c .before .before .before in
-    (start .pre .0 .tables .size, (subst (λ n. n < most-classes) (sym (c .before .byte-at .ensures .0)) (there-class (start .pre .0)), start .pre .1))
+    (c .before .before .before .pre .0 .tables .size, (subst (λ n. n < most-classes) (sym (c .before .byte-at .ensures .0)) (there-class (c .before .before .before .pre .0)), c .before .before .before .pre .1))
 
 add-result : tie.Need-add-result
 add-result c = search needs
@@ -43,9 +42,8 @@ add-result c = search needs
 returns : tie.Need-returns
 unfolding classIn firstIn
 returns c =
-    let start = c .before .before .before .before in
-    let at-byte-at = c .before .before .byte-at in
-    let e : c .before .half-at .result + c .place-at .result ≡ cellIn (now (start .args .work)) (start .args .o) (start .args .f) = rw (c .before .half-at .ensures .0, c .place-at .ensures .0, at-byte-at .ensures .0) in (e, subst (λ n. n < heap-fields) (sym e) (there-small (start .pre .0)))
+    let e : c .before .half-at .result + c .place-at .result ≡ cellIn (now (c .before .before .before .before .args .work)) (c .before .before .before .before .args .o) (c .before .before .before .before .args .f) = rw (c .before .half-at .ensures .0, c .place-at .ensures .0, c .before .before .byte-at .ensures .0) in
+    (e, subst (λ n. n < heap-fields) (sym e) (there-small (c .before .before .before .before .pre .0)))
 
 pub cell-of-spec : {M : Type 1} → statement M
 cell-of-spec =

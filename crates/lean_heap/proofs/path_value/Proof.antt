@@ -11,8 +11,7 @@ variable-requires c κs = search needs
 
 cell-of-requires : tie.Need-cell-of-requires
 cell-of-requires c κs =
-    let start = c .before .before in
-    (subst (λ o. There (now (start .args .work)) o (start .args .f)) (sym (c .variable .ensures)) (start .pre .1 .1), start .pre .1 .0)
+    (subst (λ o. There (now (c .before .before .args .work)) o (c .before .before .args .f)) (sym (c .variable .ensures)) (c .before .before .pre .1 .1), c .before .before .pre .1 .0)
 
 mul-word-at : tie.Need-mul-word-at
 mul-word-at c = search needs

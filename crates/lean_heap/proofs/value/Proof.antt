@@ -20,9 +20,7 @@ enum-known-e-3 : tie.Need-enum-known-e-3
 enum-known-e-3 c = search needs
 
 path-value-requires : tie.Need-path-value-requires
-path-value-requires c κs =
-    let start = c .before .before .before .before in
-    let R = rw (c .before .e3 .given .1) at (start .pre .1) in ((start .pre .0, R .0), (R .1, R .2))
+path-value-requires c κs = let R = rw (c .before .e3 .given .1) at (c .before .before .before .before .pre .1) in ((c .before .before .before .before .pre .0, R .0), (R .1, R .2))
 
 returns : tie.Need-returns
 unfolding valueIn meaning

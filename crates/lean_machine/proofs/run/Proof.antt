@@ -16,10 +16,7 @@ begin-requires : tie.Need-begin-requires Inv-loop μ-loop
 begin-requires c κs = c .before .before .pre .0
 
 loop-holds : tie.Need-loop-holds Inv-loop μ-loop
-loop-holds c =
-    let start = c .before .before .before .before .before in
-    let at-begin = c .before .before .begin in
-    going _ _ _ _ (start .pre .0) (start .pre .1) (at-begin .ensures .0) (at-begin .ensures .1)
+loop-holds c = going _ _ _ _ (c .before .before .before .before .before .pre .0) (c .before .before .before .before .before .pre .1) (c .before .before .begin .ensures .0) (c .before .before .begin .ensures .1)
 
 step-requires : tie.Need-step-requires Inv-loop μ-loop
 step-requires c κs = ready (c .before .before .before .loop .inv) (c .before .if1 .taken) (search needs)
@@ -59,13 +56,13 @@ same-length c =
 
 returns : tie.Need-returns Inv-loop μ-loop
 returns c =
-    let at-before = c .before .before .before .before .before .before .before .before .before .before .before .before .before .before .before .before .before .before in
+    let start = c .before .before .before .before .before .before .before .before .before .before .before .before .before .before .before .before .before in
     let at-begin = c .before .before .before .before .before .before .before .before .before .before .before .before .before .before .begin in
     let at-loop = c .before .before .before .before .before .before .before .before .before .before .before .loop in
     let at-if1 = c .before .before .before .before .before .before .before .before .before .if1 in
     let at-step = c .before .before .before .before .before .before .before .step in
     let at-t2 = c .before .before .before .t2 in
-    let start = at-before in let at-begin = at-begin in let at-loop = at-loop in let at-if1 = at-if1 in let at-step = at-step in let at-t2 = at-t2 in from-tables (start .pre .0) (at-begin .ensures .1) (ends-stopped (at-loop .inv) _ _ (at-if1 .taken) (does-answer (at-t2 .given .1) (at-step .ensures)) (c .ended .ensures .0 .0) (c .ended .ensures .0 .1) (c .ended .ensures .1))
+    from-tables (start .pre .0) (at-begin .ensures .1) (ends-stopped (at-loop .inv) _ _ (at-if1 .taken) (does-answer (at-t2 .given .1) (at-step .ensures)) (c .ended .ensures .0 .0) (c .ended .ensures .0 .1) (c .ended .ensures .1))
 
 enum-told : tie.Need-enum-told Inv-loop μ-loop
 enum-told c = search needs
@@ -91,13 +88,13 @@ same-length-2 c =
 
 returns-2 : tie.Need-returns-2 Inv-loop μ-loop
 returns-2 c =
-    let at-before = c .before .before .before .before .before .before .before .before .before .before .before .before .before .before .before .before .before .before in
+    let start = c .before .before .before .before .before .before .before .before .before .before .before .before .before .before .before .before .before in
     let at-begin = c .before .before .before .before .before .before .before .before .before .before .before .before .before .before .begin in
     let at-loop = c .before .before .before .before .before .before .before .before .before .before .before .loop in
     let at-if1 = c .before .before .before .before .before .before .before .before .before .if1 in
     let at-step = c .before .before .before .before .before .before .before .step in
     let at-enum-told = c .before .before .before .enum-told in
-    let start = at-before in let at-begin = at-begin in let at-loop = at-loop in let at-if1 = at-if1 in let at-step = at-step in let at-enum-told = at-enum-told in from-tables (start .pre .0) (at-begin .ensures .1) (ends-finished (at-loop .inv) _ (at-if1 .taken) (does-answer (at-enum-told .given .1) (at-step .ensures)) (c .ended2 .ensures .0 .0) (c .ended2 .ensures .0 .1) (c .ended2 .ensures .1))
+    from-tables (start .pre .0) (at-begin .ensures .1) (ends-finished (at-loop .inv) _ (at-if1 .taken) (does-answer (at-enum-told .given .1) (at-step .ensures)) (c .ended2 .ensures .0 .0) (c .ended2 .ensures .0 .1) (c .ended2 .ensures .1))
 
 ended-requires-3 : tie.Need-ended-requires-3 Inv-loop μ-loop
 ended-requires-3 c κs = at-row (c .before .before .before .loop .inv)
@@ -107,11 +104,11 @@ same-length-3 c = c .before .before .before .before .loop .inv .same .size ∙ c
 
 returns-3 : tie.Need-returns-3 Inv-loop μ-loop
 returns-3 c =
-    let at-before = c .before .before .before .before .before .before .before .before .before .before .before in
+    let start = c .before .before .before .before .before .before .before .before .before .before in
     let at-begin = c .before .before .before .before .before .before .before .begin in
     let at-loop = c .before .before .before .before .loop in
     let at-if1 = c .before .before .if1 in
-    let start = at-before in let at-begin = at-begin in let at-loop = at-loop in let at-if1 = at-if1 in from-tables (start .pre .0) (at-begin .ensures .1) (ends-taken (at-loop .inv) _ (at-if1 .left) (c .ended3 .ensures .0 .0) (c .ended3 .ensures .0 .1) (c .ended3 .ensures .1))
+    from-tables (start .pre .0) (at-begin .ensures .1) (ends-taken (at-loop .inv) _ (at-if1 .left) (c .ended3 .ensures .0 .0) (c .ended3 .ensures .0 .1) (c .ended3 .ensures .1))
 
 pub run-spec : {M : Type 1} → statement M
 run-spec =

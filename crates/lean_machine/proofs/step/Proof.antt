@@ -32,38 +32,24 @@ call-step-requires c κs = (c .before .before .before .before .before .before .p
 
 back-step-requires : tie.Need-back-step-requires
 unfolding statementNumber
-back-step-requires c κs =
-    let start = c .before .before .before .before .before .before in
-    let at-kind-at = c .before .before .kind-at in
-    (start .pre, ⊎-elim (λ e. inl (sym (at-kind-at .ensures) ∙ e)) (λ e. inr (sym (at-kind-at .ensures) ∙ e)) (c .before .match .keys5))
+back-step-requires c κs = (c .before .before .before .before .before .before .pre, ⊎-elim (λ e. inl (sym (c .before .before .kind-at .ensures) ∙ e)) (λ e. inr (sym (c .before .before .kind-at .ensures) ∙ e)) (c .before .match .keys5))
 
 pass-step-requires : tie.Need-pass-step-requires
 unfolding statementNumber
 pass-step-requires c κs =
-    let start = c .before .before .before .before .before .before in
-    let at-kind-at = c .before .before .kind-at in
-    (start .pre, inl (⊎-elim (λ e. inl (sym (at-kind-at .ensures) ∙ e)) (λ e. inr (sym (at-kind-at .ensures) ∙ e)) (c .before .match .keys6)))
+    (c .before .before .before .before .before .before .pre, inl (⊎-elim (λ e. inl (sym (c .before .before .kind-at .ensures) ∙ e)) (λ e. inr (sym (c .before .before .kind-at .ensures) ∙ e)) (c .before .match .keys6)))
 
 pass-step-requires-2 : tie.Need-pass-step-requires-2
 unfolding statementNumber
-pass-step-requires-2 c κs =
-    let start = c .before .before .before .before .before .before in
-    let at-kind-at = c .before .before .kind-at in
-    (start .pre, inr (inl (sym (at-kind-at .ensures) ∙ c .before .match .keys7)))
+pass-step-requires-2 c κs = (c .before .before .before .before .before .before .pre, inr (inl (sym (c .before .before .kind-at .ensures) ∙ c .before .match .keys7)))
 
 choose-step-requires : tie.Need-choose-step-requires
 unfolding statementNumber
-choose-step-requires c κs =
-    let start = c .before .before .before .before .before .before in
-    let at-kind-at = c .before .before .kind-at in
-    (start .pre, ⊎-elim (λ e. inl (sym (at-kind-at .ensures) ∙ e)) (λ e. inr (sym (at-kind-at .ensures) ∙ e)) (c .before .match .keys8))
+choose-step-requires c κs = (c .before .before .before .before .before .before .pre, ⊎-elim (λ e. inl (sym (c .before .before .kind-at .ensures) ∙ e)) (λ e. inr (sym (c .before .before .kind-at .ensures) ∙ e)) (c .before .match .keys8))
 
 jump-step-requires : tie.Need-jump-step-requires
 unfolding statementNumber
-jump-step-requires c κs =
-    let start = c .before .before .before .before .before .before in
-    let at-kind-at = c .before .before .kind-at in
-    (start .pre, ⊎-elim (λ e. inl (sym (at-kind-at .ensures) ∙ e)) (λ e. inr (sym (at-kind-at .ensures) ∙ e)) (c .before .match .keys9))
+jump-step-requires c κs = (c .before .before .before .before .before .before .pre, ⊎-elim (λ e. inl (sym (c .before .before .kind-at .ensures) ∙ e)) (λ e. inr (sym (c .before .before .kind-at .ensures) ∙ e)) (c .before .match .keys9))
 
 open-step-requires : tie.Need-open-step-requires
 unfolding statementNumber
@@ -71,17 +57,19 @@ open-step-requires c κs = (c .before .before .before .before .before .before .p
 
 pass-step-requires-3 : tie.Need-pass-step-requires-3
 unfolding statementNumber
-pass-step-requires-3 c κs =
-    let start = c .before .before .before .before .before .before in
-    let at-kind-at = c .before .before .kind-at in
-    (start .pre, inr (inr (sym (at-kind-at .ensures) ∙ c .before .match .keys11)))
+pass-step-requires-3 c κs = (c .before .before .before .before .before .before .pre, inr (inr (sym (c .before .before .kind-at .ensures) ∙ c .before .match .keys11)))
 
 compute-step-requires : tie.Need-compute-step-requires
 compute-step-requires c κs =
-    let start = c .before .before .before .before .before .before .before .before in
-    let at-kind-at = c .before .before .before .before .kind-at in
-    let at-match = c .before .before .before .match in
-    let is = at-kind-at .ensures in let other = at-match .rest in let t = Stepping.is-computing _ (has-kind (start .pre)) (λ z. other .0 .0 .0 .0 .0 .0 .0 .0 .0 .0 .1 (is ∙ z)) (λ z. other .0 .0 .0 .0 .0 .0 .0 .0 .0 .1 (is ∙ z)) (λ z. other .0 .0 .0 .0 .0 .0 .0 .0 .1 (is ∙ z)) (λ z. other .0 .0 .0 .0 .0 .0 .0 .1 (is ∙ z)) (λ z. other .0 .0 .0 .0 .0 .0 .1 (inl (is ∙ z))) (λ o. other .0 .0 .0 .0 .0 .1 (⊎-elim (λ z. inl (is ∙ z)) (λ z. inr (is ∙ z)) o)) (λ z. other .0 .0 .0 .0 .1 (is ∙ z)) (λ z. other .0 .0 .0 .1 (inl (is ∙ z))) (λ z. other .0 .0 .0 .1 (inr (is ∙ z))) (λ o. other .0 .0 .1 (⊎-elim (λ z. inl (is ∙ z)) (λ z. inr (is ∙ z)) o)) (λ z. other .0 .1 (is ∙ z)) (λ z. other .1 (is ∙ z)) (λ z. other .0 .0 .0 .0 .0 .0 .1 (inr (is ∙ z))) in (start .pre, t)
+    let is = c .before .before .before .before .kind-at .ensures in
+    let other = c .before .before .before .match .rest in
+    let t =
+    Stepping.is-computing _ (has-kind (c .before .before .before .before .before .before .before .before .pre)) (λ z. other .0 .0 .0 .0 .0 .0 .0 .0 .0 .0 .1 (is ∙ z)) (λ z. other .0 .0 .0 .0 .0 .0 .0 .0 .0 .1 (is ∙ z))
+    (λ z. other .0 .0 .0 .0 .0 .0 .0 .0 .1 (is ∙ z)) (λ z. other .0 .0 .0 .0 .0 .0 .0 .1 (is ∙ z)) (λ z. other .0 .0 .0 .0 .0 .0 .1 (inl (is ∙ z)))
+    (λ o. other .0 .0 .0 .0 .0 .1 (⊎-elim (λ z. inl (is ∙ z)) (λ z. inr (is ∙ z)) o)) (λ z. other .0 .0 .0 .0 .1 (is ∙ z))
+    (λ z. other .0 .0 .0 .1 (inl (is ∙ z))) (λ z. other .0 .0 .0 .1 (inr (is ∙ z)))
+    (λ o. other .0 .0 .1 (⊎-elim (λ z. inl (is ∙ z)) (λ z. inr (is ∙ z)) o)) (λ z. other .0 .1 (is ∙ z)) (λ z. other .1 (is ∙ z)) (λ z. other .0 .0 .0 .0 .0 .0 .1 (inr (is ∙ z))) in
+    (c .before .before .before .before .before .before .before .before .pre, t)
 
 same-length : tie.Need-same-length
 same-length c = search needs
@@ -166,10 +154,11 @@ same-length-14 c = search needs
 
 returns-14 : tie.Need-returns-14
 returns-14 c =
-    let start = c .before .before .before .before .before .before .before in
-    let at-kind-at = c .before .before .before .kind-at in
-    let at-match = c .before .before .match in
-    let is = at-kind-at .ensures in let other = at-match .rest in absurd (Stepping.past-all _ (has-kind (start .pre)) (omega (arith, is, c .if2 .left)) (λ z. other .0 .0 .0 .1 (inr (is ∙ z))) (λ o. other .0 .0 .1 (⊎-elim (λ z. inl (is ∙ z)) (λ z. inr (is ∙ z)) o)) (λ z. other .0 .1 (is ∙ z)) (λ z. other .1 (is ∙ z)))
+    let is = c .before .before .before .kind-at .ensures in
+    let other = c .before .before .match .rest in
+    absurd
+    (Stepping.past-all _ (has-kind (c .before .before .before .before .before .before .before .pre)) (omega (arith, is, c .if2 .left))
+    (λ z. other .0 .0 .0 .1 (inr (is ∙ z))) (λ o. other .0 .0 .1 (⊎-elim (λ z. inl (is ∙ z)) (λ z. inr (is ∙ z)) o)) (λ z. other .0 .1 (is ∙ z)) (λ z. other .1 (is ∙ z)))
 
 pub step-spec : {M : Type 1} → statement M
 step-spec =
