@@ -19,7 +19,8 @@ same-length c = search needs
 
 returns : tie.Need-returns
 returns c =
-    (c .moved .ensures ∙ (λ j. moved (c .before .before .before .before .before .before .before .before .before .args .p) (c .before .before .before .before .before .before .before .before .before .args .p .names) (c .before .with-class .ensures j) (c .before .before .before .before .before .before .before .before .before .args .p .main)), c .before .before .before .before .put-class-row .ensures)
+    let start = c .before .before .before .before .before .before .before .before .before in
+    (c .moved .ensures ∙ (λ j. moved (start .args .p) (start .args .p .names) (c .before .with-class .ensures j) (start .args .p .main)), c .before .before .before .before .put-class-row .ensures)
 
 pub put-class-spec : {M : Type 1} → statement M
 put-class-spec =
