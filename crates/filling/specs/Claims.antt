@@ -13,7 +13,7 @@ use Rattle.rules.specs.Scope.{declarations, firstScope}
 use Rattle.rules.specs.Items.{Item, resolveLines}
 use Rattle.rules.specs.Reading.{program}
 use Rattle.rules.specs.Fill.{starsFrom, accessesAt, setsOf, atPlaces, withAtoms}
-use Rattle.rules.specs.Calls.{checkText, setFound, firstSet, fillLines}
+use Rattle.rules.specs.Calls.{checkText, setFound, firstSet, fillSet}
 use Rattle.filling.specs.Sets.{methodOfLine, accessesOfLine, setFor}
 
 -- the bytes of lines
@@ -55,4 +55,4 @@ pub record AcceptedFirst (t : List ℕ) (ps : List ℕ) (ks : List Line) (l : �
 pub FilledIsAccepted : Type 0
 FilledIsAccepted =
     (t : List ℕ) (ks : List Line) (items : List Item) (l : ℕ) (ps : List ℕ) → OneStar (lines t) ks items l →
-    fillLines (lines t) ≡ accepted ps → AcceptedFirst t ps ks l
+    fillSet t ≡ accepted ps → AcceptedFirst t ps ks l
