@@ -11,8 +11,8 @@ use Rattle.rules.specs.Grammar.{isComputing}
 use Rattle.rules.specs.Syntax.{Formula, assign, assert, release, simple, join}
 use Rattle.tables.specs.declared.Operands.{Operands}
 use Rattle.tables.specs.Layout.{rows-at, methods-at, classes-at, places-at, atoms-at, most-names}
-use Rattle.tables.specs.Decode.{byteAt, halfAt, exprAt, leftAt, rightAt, atomAt, atomsFrom, atomPlace, ifAt, loopAt, rowPlace, kindAt, operandsAt, formulaOf, stmtOf, rowAt, requiresAt, ensuresAt, methodPlace, firstRowAt, methodAt, classPlace, placesPlace, fieldCountAt, fieldNameAt, fieldAt, classAt}
-use Rattle.tables.specs.Tables.{AtomFitsAt, Declared, OperandsFit, FormulasFit, ClassFits, placeAt}
+use Rattle.tables.specs.Decode.{byteAt, halfAt, exprAt, leftAt, rightAt, atomAt, atomsFrom, atomPlace, ifAt, loopAt, rowPlace, kindAt, operandsAt, formulaOf, stmtOf, rowAt, requiresFirstAt, requiresCountAt, ensuresFirstAt, ensuresCountAt, requiresAt, ensuresAt, methodPlace, firstRowAt, methodAt, classPlace, placesPlace, fieldCountAt, fieldNameAt, fieldAt, classAt}
+use Rattle.tables.specs.Tables.{AtomFitsAt, AtomsFit, Declared, OperandsFit, FormulasFit, ClassFits, placeAt}
 use Rattle.tables.specs.Stores.{Kept}
 use Rattle.tables.proofs.Bytes.{half-kept}
 use Rattle.tables.proofs.Runs.{run-same}
@@ -144,40 +144,62 @@ module _ (w w′ : List ℕ) (R : ℕ) (K : RowsKept R w w′) (i : ℕ) (l : i 
     operands-fit-kept = rw operands-kept fits
 
 -- METHODS
-module _ (w w′ : List ℕ) (M : ℕ) (K : Kept methods-at (methodPlace M) w w′) (m : ℕ) (l : m < M) where
-  method-byte : (k : ℕ) → k < 8 → byteAt w′ (methodPlace m + k) ≡ byteAt w (methodPlace m + k)
-  method-byte k p = K (methodPlace m + k) (omega arith) (omega arith)
 
-  method-half : (i : ℕ) → methodPlace m ≤ i → i + 2 ≤ methodPlace m + 8 → halfAt w′ i ≡ halfAt w i
-  method-half i p q = half-kept methods-at (methodPlace M) w w′ K i (omega arith) (omega arith)
+-- a method among the first M
+pub one-method :
+    (w w′ : List ℕ) (M : ℕ) → Kept methods-at (methodPlace M) w w′ → (m : ℕ) → m < M → Kept (methodPlace m) (methodPlace m + 8) w w′
+one-method w w′ M K m l i p q = K i (omega arith) (omega arith)
+
+-- what follows its requires
+module _ (w w′ : List ℕ) (m : ℕ) (K : Kept (methodPlace m + 3) (methodPlace m + 8) w w′) where
+  ensures-first-kept : ensuresFirstAt w′ m ≡ ensuresFirstAt w m
+  ensures-first-kept = half-kept _ _ w w′ K (methodPlace m + 4) (omega arith) (omega arith)
+
+  ensures-count-kept : ensuresCountAt w′ m ≡ ensuresCountAt w m
+  ensures-count-kept = K (methodPlace m + 3) (omega arith) (omega arith)
 
   pub first-row-kept : firstRowAt w′ m ≡ firstRowAt w m
-  first-row-kept = method-half (methodPlace m + 6) (omega arith) (omega arith)
+  first-row-kept = half-kept _ _ w w′ K (methodPlace m + 6) (omega arith) (omega arith)
+
+  module _ (n : ℕ) (fits : AtomsFit n (ensuresFirstAt w m) (ensuresCountAt w m)) where
+    pub ensures-fit-kept : AtomsFit n (ensuresFirstAt w′ m) (ensuresCountAt w′ m)
+    ensures-fit-kept = rw (ensures-first-kept, ensures-count-kept) fits
+
+    pub ensures-kept : Kept atoms-at (atomPlace n) w w′ → ensuresAt w′ m ≡ ensuresAt w m
+    unfolding ensuresAt
+    ensures-kept KA = rw (ensures-first-kept, ensures-count-kept) (atoms-kept w w′ n KA _ _ (fits .1))
+
+module _ (w w′ : List ℕ) (m : ℕ) (K : Kept (methodPlace m) (methodPlace m + 8) w w′) where
+  requires-first-kept : requiresFirstAt w′ m ≡ requiresFirstAt w m
+  requires-first-kept = half-kept _ _ w w′ K (methodPlace m) (omega arith) (omega arith)
+
+  requires-count-kept : requiresCountAt w′ m ≡ requiresCountAt w m
+  requires-count-kept = K (methodPlace m + 2) (omega arith) (omega arith)
+
+  pub after-requires : Kept (methodPlace m + 3) (methodPlace m + 8) w w′
+  after-requires i p q = K i (omega arith) q
 
   module _ (n : ℕ) (fits : FormulasFit w n m) where
     pub formulas-fit-kept : FormulasFit w′ n m
     formulas-fit-kept =
         record {
-          requires = rw (method-half (methodPlace m) (omega arith) (omega arith), method-byte 2 (omega arith)) (fits .requires);
-          ensures = rw (method-half (methodPlace m + 4) (omega arith) (omega arith), method-byte 3 (omega arith)) (fits .ensures);
+          requires = rw (requires-first-kept, requires-count-kept) (fits .requires);
+          ensures = ensures-fit-kept w w′ m after-requires n (fits .ensures);
         }
 
     module _ (KA : Kept atoms-at (atomPlace n) w w′) where
       pub requires-kept : requiresAt w′ m ≡ requiresAt w m
       unfolding requiresAt
-      requires-kept =
-          rw (method-half (methodPlace m) (omega arith) (omega arith), method-byte 2 (omega arith))
-          (atoms-kept w w′ n KA _ _ (fits .requires .1))
-
-      pub ensures-kept : ensuresAt w′ m ≡ ensuresAt w m
-      unfolding ensuresAt
-      ensures-kept =
-          rw (method-half (methodPlace m + 4) (omega arith) (omega arith), method-byte 3 (omega arith))
-          (atoms-kept w w′ n KA _ _ (fits .ensures .1))
+      requires-kept = rw (requires-first-kept, requires-count-kept) (atoms-kept w w′ n KA _ _ (fits .requires .1))
 
       pub method-same : methodAt w′ m ≡ methodAt w m
       unfolding methodAt
-      method-same = λ j. record { requires = requires-kept j; ensures = ensures-kept j; first = first-row-kept j }
+      method-same =
+          λ j. record {
+            requires = requires-kept j;
+            ensures = ensures-kept w w′ m after-requires n (fits .ensures) KA j;
+            first = first-row-kept w w′ m after-requires j;
+          }
 
 -- CLASSES
 module _

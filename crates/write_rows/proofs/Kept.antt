@@ -13,7 +13,7 @@ use Rattle.tables.specs.Decode.{run, atomPlace, rowAt, methodPlace, methodAt, c
 use Rattle.tables.specs.Tables.{AtomsFit, Declared, OperandsFit}
 use Rattle.tables.specs.Stores.{Kept, SameTables}
 use Rattle.tables.proofs.Runs.{run-kept}
-use Rattle.tables.proofs.Kept.{RowsKept, all-rows, atom-fits-kept, row-same, operands-fit-kept, first-row-kept, formulas-fit-kept, method-same, class-same, class-fits-kept}
+use Rattle.tables.proofs.Kept.{RowsKept, all-rows, atom-fits-kept, row-same, operands-fit-kept, one-method, after-requires, first-row-kept, formulas-fit-kept, method-same, class-same, class-fits-kept}
 use Rattle.write_rows.specs.Holds.{AtomsHold, RowsHold, MethodOk, MethodsHold, ClassesHold, Holds}
 
 -- MORE ATOMS AND ROWS
@@ -62,8 +62,8 @@ module _ (w w′ : List ℕ) (n : ℕ) (KA : Kept atoms-at (atomPlace n) w w′)
       (R M : ℕ) → Kept methods-at (methodPlace M) w w′ → (m : ℕ) → m < M → MethodOk w n R m → MethodOk w′ n R m
   method-ok-kept R M KM m l o =
       record {
-        formulas = formulas-fit-kept w w′ M KM m l n (o .formulas);
-        first = rw (first-row-kept w w′ M KM m l) (o .first);
+        formulas = formulas-fit-kept w w′ m (one-method w w′ M KM m l) n (o .formulas);
+        first = rw (first-row-kept w w′ m (after-requires w w′ m (one-method w w′ M KM m l))) (o .first);
       }
 
   pub methods-kept :
@@ -73,7 +73,7 @@ module _ (w w′ : List ℕ) (n : ℕ) (KA : Kept atoms-at (atomPlace n) w w′)
         few = h .few;
         mean =
             run-kept (methodAt w) (methodAt w′) ms (h .mean)
-            (λ m l. method-same w w′ (length ms) KM m l n (h .fit m l .formulas) KA);
+            (λ m l. method-same w w′ m (one-method w w′ (length ms) KM m l) n (h .fit m l .formulas) KA);
         fit = λ m l. method-ok-kept R (length ms) KM m l (h .fit m l);
       }
 
