@@ -11,7 +11,7 @@ use Rattle.tables.specs.Tables.{RowFits, HasTarget, TargetFits, MethodFi
 use Rattle.tables.specs.Stores.{Kept, SameTables}
 use Rattle.tables.proofs.Bytes.{half-kept}
 use Rattle.tables.proofs.Runs.{run-same}
-use Rattle.tables.proofs.Kept.{RowsKept, all-rows, atom-fits-kept, row-same, operands-fit-kept, one-method, after-requires, first-row-kept, formulas-fit-kept, requires-kept, ensures-kept, method-same, field-count-kept, place-kept, class-same, class-fits-kept}
+use Rattle.tables.proofs.Kept.{RowsKept, all-rows, one-atom, atom-fits-kept, row-same, operands-fit-kept, one-method, after-requires, first-row-kept, formulas-fit-kept, requires-kept, ensures-kept, method-same, field-count-kept, place-kept, class-same, class-fits-kept}
 
 module _ (w w′ : List ℕ) (same : SameTables w w′) where
   byte : (i : ℕ) → i < names-at → byteAt w′ i ≡ byteAt w i
@@ -148,7 +148,7 @@ module _ (w w′ : List ℕ) (same : SameTables w w′) where
           row-fits = λ i l. row-fits-kept i (omega (arith, rows-count-same));
           atom-fits = λ a l.
               let k : a < atomCount w = omega (arith, atoms-count-same) in
-              atom-fits-kept w w′ _ atoms-part a k (tables .atom-fits a k);
+              atom-fits-kept w w′ a (one-atom w w′ _ atoms-part a k) (tables .atom-fits a k);
           method-fits = λ m l. method-fits-kept m (omega (arith, methods-count-same));
           class-fits = λ c l.
               let k : c < classCount w = omega (arith, classes-count-same) in

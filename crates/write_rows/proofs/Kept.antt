@@ -13,11 +13,11 @@ use Rattle.tables.specs.Decode.{run, atomPlace, rowAt, methodPlace, methodAt, c
 use Rattle.tables.specs.Tables.{AtomsFit, Declared, OperandsFit}
 use Rattle.tables.specs.Stores.{Kept, SameTables}
 use Rattle.tables.proofs.Runs.{run-kept}
-use Rattle.tables.proofs.Kept.{RowsKept, all-rows, atom-fits-kept, row-same, operands-fit-kept, one-method, after-requires, first-row-kept, formulas-fit-kept, method-same, class-same, class-fits-kept}
+use Rattle.tables.proofs.Kept.{RowsKept, all-rows, one-atom, atom-fits-kept, row-same, operands-fit-kept, one-method, after-requires, first-row-kept, formulas-fit-kept, method-same, class-same, class-fits-kept}
 use Rattle.write_rows.specs.Holds.{AtomsHold, RowsHold, MethodOk, MethodsHold, ClassesHold, Holds}
 
 -- MORE ATOMS AND ROWS
-atoms-more : {n n′ : ℕ} (a k : ℕ) → n ≤ n′ → AtomsFit n a k → AtomsFit n′ a k
+pub atoms-more : {n n′ : ℕ} (a k : ℕ) → n ≤ n′ → AtomsFit n a k → AtomsFit n′ a k
 atoms-more {n} {n′} a k l r = omega arith
 
 pub operands-more : {D : Declared} {n n′ : ℕ} {r : Operands} → n ≤ n′ → OperandsFit D n r → OperandsFit D n′ r
@@ -45,7 +45,7 @@ method-more {w} {n} {n′} {R} {R′} {m} l k o =
 -- THE SAME BYTES
 module _ (w w′ : List ℕ) (n : ℕ) (KA : Kept atoms-at (atomPlace n) w w′) where
   pub atoms-hold-kept : AtomsHold w n → AtomsHold w′ n
-  atoms-hold-kept h = record { few = h .few; fit = λ a l. atom-fits-kept w w′ n KA a l (h .fit a l) }
+  atoms-hold-kept h = record { few = h .few; fit = λ a l. atom-fits-kept w w′ a (one-atom w w′ n KA a l) (h .fit a l) }
 
   pub rows-kept : (D : Declared) (rs : List Row) → RowsKept (length rs) w w′ → RowsHold D w n rs → RowsHold D w′ n rs
   rows-kept D rs KR h =
