@@ -3,3 +3,4 @@ pub mod Words
 pub mod Joined
 pub mod Taken
 pub mod Star
+pub mod Classes
