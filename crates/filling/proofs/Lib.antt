@@ -4,3 +4,4 @@ pub mod Joined
 pub mod Taken
 pub mod Star
 pub mod Classes
+pub mod Fields
