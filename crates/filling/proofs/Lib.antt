@@ -5,3 +5,4 @@ pub mod Taken
 pub mod Star
 pub mod Classes
 pub mod Fields
+pub mod Programs
