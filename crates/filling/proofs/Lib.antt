@@ -6,3 +6,4 @@ pub mod Star
 pub mod Classes
 pub mod Fields
 pub mod Programs
+pub mod Headers

@@ -28,7 +28,7 @@ unfolding onLast
 last-further f a [] h = absurd (omega arith)
 last-further f a (b ∷ l) h = refl
 
-last-length : {A : Type 0} (f : A → A) (l : List A) → length (onLast f l) ≡ length l
+pub last-length : {A : Type 0} (f : A → A) (l : List A) → length (onLast f l) ≡ length l
 unfolding onLast
 last-length f [] = refl
 last-length f (a ∷ []) = refl
