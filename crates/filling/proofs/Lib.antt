@@ -7,3 +7,4 @@ pub mod Classes
 pub mod Fields
 pub mod Programs
 pub mod Headers
+pub mod Resolved
