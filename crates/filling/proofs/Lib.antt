@@ -8,3 +8,4 @@ pub mod Fields
 pub mod Programs
 pub mod Headers
 pub mod Resolved
+pub mod Accesses
