@@ -9,3 +9,5 @@ pub mod Programs
 pub mod Headers
 pub mod Resolved
 pub mod Accesses
+pub mod Chosen
+pub mod AtStar
