@@ -11,3 +11,4 @@ pub mod Resolved
 pub mod Accesses
 pub mod Chosen
 pub mod AtStar
+pub mod StarRead
