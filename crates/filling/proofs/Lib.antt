@@ -12,3 +12,4 @@ pub mod Accesses
 pub mod Chosen
 pub mod AtStar
 pub mod StarRead
+pub mod Search
