@@ -1,6 +1,6 @@
 -- The atoms that may stand for the star, by their names and by their numbers: the same, in one order, and each passes 6, 7 and 9.
 use mathlib.Core.Path.{_≡_, refl, sym, ap, ap₂, subst, _∙_}
-use mathlib.Core.Bool.{Bool, true, false, cond, not, _&&_, _||_}
+use mathlib.Core.Bool.{Bool, true, false, cond, not}
 use mathlib.Core.List.{List, [], _∷_, _++_, map, map-append, append-nil}
 use mathlib.Core.Logic.{⊎-elim}
 use mathlib.Core.Option.{none, some}
@@ -10,19 +10,17 @@ use lib.Dec.{T, T-not, not-T, eqb, eqb→eq}
 use lib.ListN.{length, getD}
 use Rattle.rules.specs.Base.{Name, Member, bytes, is, eqName, any, keep, index, withDefault}
 use Rattle.rules.specs.Base as Base
-use Rattle.rules.specs.Syntax.{Formula, this-variable, parameter, own, acc}
+use Rattle.rules.specs.Syntax.{this-variable, parameter, own, acc}
 use Rattle.rules.specs.Text.{isName, reserved}
 use Rattle.rules.specs.Text as Text
 use Rattle.rules.specs.Scope.{Declarations, FieldDeclaration, Variable}
 use Rattle.rules.specs.Names.{noVariable, classNumber, isFieldOf, fieldNumber, inScope, lookUp, variableNumber, variableType, isInt, knownField}
-use Rattle.rules.specs.Names as Names
 use Rattle.rules.specs.Reading as Reading
 use Rattle.rules.specs.Fill.{Access, accessesOf, accessesFor, noAccess, atPlaces}
 use Rattle.rules.proofs.Lists.{F-false, T-true, and-intro, or-left, or-right, append-member, keep-member, map-member, any-in, name-same, same-name}
-use Rattle.filling.specs.Sets.{fieldsOf, accessesIn, formulaOf}
+use Rattle.filling.specs.Sets.{fieldsOf, formulaOf}
 use Rattle.filling.specs.Sets as Sets
-use Rattle.filling.proofs.Listed.{All, every, of-every, member-at, index-none}
-use Rattle.filling.proofs.Words.{Named}
+use Rattle.filling.proofs.Listed.{All, of-every, member-at, index-none}
 use Rattle.filling.proofs.Classes.{FieldKnown}
 use Rattle.filling.proofs.Fields.{numberedField, fieldsIn}
 use Rattle.filling.proofs.Resolved.{Good, atomOf}
@@ -72,41 +70,41 @@ module _
     (Γ : Declarations) (vs : List Variable) (fields : All (FieldKnown (length (Γ .classes))) (Γ .fields))
     (no-int : T (any (eqName (bytes "int")) (Γ .classes)) → ⊥)
   where
-  -- int has no field
-  owner-no-int : (C : Name) (d : FieldDeclaration) → FieldKnown (length (Γ .classes)) d → d .owner ≡ classNumber Γ C → T (is "int" C) → ⊥
-  unfolding classNumber is
-  owner-no-int C d F e t =
-      let c : classNumber Γ C ≡ length (Γ .classes) =
-      ap (λ (C : Name). index (eqName C) (Γ .classes)) (sym (same-name (bytes "int") C t))
-      ∙ index-none (eqName (bytes "int")) (Γ .classes) no-int in
-      omega (arith, F .owned, e, c)
+    -- int has no field
+    owner-no-int : (C : Name) (d : FieldDeclaration) → FieldKnown (length (Γ .classes)) d → d .owner ≡ classNumber Γ C → T (is "int" C) → ⊥
+    unfolding classNumber is
+    owner-no-int C d F e t =
+        let c : classNumber Γ C ≡ length (Γ .classes) =
+        ap (λ (C : Name). index (eqName C) (Γ .classes)) (sym (same-name (bytes "int") C t))
+        ∙ index-none (eqName (bytes "int")) (Γ .classes) no-int in
+        omega (arith, F .owned, e, c)
 
-  access-good :
-      (v : Variable) (d : FieldDeclaration) → Found vs v → Member d (Γ .fields) → T (eqb (d .owner) (classNumber Γ (v .type))) →
-      Good Γ vs (record { variable = v .name; field = d .name })
-  unfolding knownField isInt variableType isFieldOf
-  access-good v d G i o =
-      let F : FieldKnown (length (Γ .classes)) d = of-every (FieldKnown (length (Γ .classes))) (Γ .fields) fields d i in
-      let t : lookUp vs (v .name) .type ≡ v .type = ap (λ (u : Variable). u .type) (G .found) in
-      let own : T (any (isFieldOf Γ (v .type) (d .name)) (Γ .fields)) =
-      any-in (isFieldOf Γ (v .type) (d .name)) (Γ .fields) d i (and-intro (eqb (d .owner) (classNumber Γ (v .type))) _ o (name-same (d .name))) in
-      record {
-        named = record { variable = G .named; field = F .named };
-        in-scope = G .there;
-        known =
-            and-intro (not (reserved (d .name))) _ (F .free)
-            (or-right (isInt vs (v .name)) _ (subst (λ (C : Name). T (any (isFieldOf Γ C (d .name)) (Γ .fields))) (sym t) own));
-        of-class =
-            not-T (isInt vs (v .name))
-            (λ h. owner-no-int (v .type) d F (eqb→eq (d .owner) _ o) (subst (λ (C : Name). T (is "int" C)) t h));
-      }
+    access-good :
+        (v : Variable) (d : FieldDeclaration) → Found vs v → Member d (Γ .fields) → T (eqb (d .owner) (classNumber Γ (v .type))) →
+        Good Γ vs (record { variable = v .name; field = d .name })
+    unfolding knownField isInt variableType isFieldOf
+    access-good v d G i o =
+        let F : FieldKnown (length (Γ .classes)) d = of-every (FieldKnown (length (Γ .classes))) (Γ .fields) fields d i in
+        let t : lookUp vs (v .name) .type ≡ v .type = ap (λ (u : Variable). u .type) (G .found) in
+        let own : T (any (isFieldOf Γ (v .type) (d .name)) (Γ .fields)) =
+        any-in (isFieldOf Γ (v .type) (d .name)) (Γ .fields) d i (and-intro (eqb (d .owner) (classNumber Γ (v .type))) _ o (name-same (d .name))) in
+        record {
+          named = record { variable = G .named; field = F .named };
+          in-scope = G .there;
+          known =
+              and-intro (not (reserved (d .name))) _ (F .free)
+              (or-right (isInt vs (v .name)) _ (subst (λ (C : Name). T (any (isFieldOf Γ C (d .name)) (Γ .fields))) (sym t) own));
+          of-class =
+              not-T (isInt vs (v .name))
+              (λ h. owner-no-int (v .type) d F (eqb→eq (d .owner) _ o) (subst (λ (C : Name). T (is "int" C)) t h));
+        }
 
-  accesses-good : (v : Variable) → Found vs v → (α : Access) → Member α (accessesOf Γ v) → Good Γ vs α
-  unfolding accessesOf
-  accesses-good v G α i =
-      let (d, j, e) = map-member _ (keep (λ d. eqb (d .owner) (classNumber Γ (v .type))) (Γ .fields)) α i in
-      let (k, o) = keep-member _ (Γ .fields) d j in
-      subst (Good Γ vs) (sym e) (access-good v d G k o)
+    accesses-good : (v : Variable) → Found vs v → (α : Access) → Member α (accessesOf Γ v) → Good Γ vs α
+    unfolding accessesOf
+    accesses-good v G α i =
+        let (d, j, e) = map-member _ (keep (λ d. eqb (d .owner) (classNumber Γ (v .type))) (Γ .fields)) α i in
+        let (k, o) = keep-member _ (Γ .fields) d j in
+        subst (Good Γ vs) (sym e) (access-good v d G k o)
 
 pub all-good :
     (Γ : Declarations) (C U w : Name) → All (FieldKnown (length (Γ .classes))) (Γ .fields) →

@@ -1,16 +1,16 @@
 -- The class that a line stands in, its name and its place among the classes; what is known of the classes and the fields that a text declares.
-use mathlib.Core.Path.{_≡_, refl, sym, ap, subst, _∙_}
-use mathlib.Core.Bool.{Bool, true, false, cond, not, _&&_, _||_}
+use mathlib.Core.Path.{_≡_, refl, ap}
+use mathlib.Core.Bool.{Bool, true, false, cond, not, _&&_}
 use mathlib.Core.List.{List, [], _∷_, _++_}
 use mathlib.Core.Logic.{⊎-elim}
-use Prim.Native.Nat.{ℕ, zero, suc, pred, _+_, _≤_, _<_}
+use Prim.Native.Nat.{ℕ, suc, pred, _+_, _≤_, _<_}
 use native.Mathlib.Omega.{arith}
 use lib.Dec.{T, T-not, eqb, leb, leb→le, lit≤}
 use lib.ListN.{length, getD, length-append}
 use Rattle.rules.specs.Base.{Name, bytes, is, eqName, any, all, between}
 use Rattle.rules.specs.Text.{isName, reserved}
 use Rattle.rules.specs.Grammar.{Kind, Line, Class, Field, Method, Requires, Ensures, Main, Var, statement, End, Return}
-use Rattle.rules.specs.Grammar.{new, fields, methods, variables, afterMain, afterMethod, afterReturn, inBody, form, isKind, isFormed, statementNumber}
+use Rattle.rules.specs.Grammar.{new, fields, methods, variables, afterMain, afterMethod, afterReturn, inBody, form, isKind, statementNumber}
 use Rattle.rules.specs.Grammar as Grammar
 use Rattle.rules.specs.Places.{Place, stageNumber, inPlace, placeAfter}
 use Rattle.rules.specs.Places as Places

@@ -1,5 +1,5 @@
 -- The classes of a text's program have the fields that the text declares, each by the number of its name.
-use mathlib.Core.Path.{_≡_, refl, sym, ap, subst, _∙_}
+use mathlib.Core.Path.{_≡_, refl, sym, ap, _∙_}
 use mathlib.Core.Bool.{Bool, true, false, cond}
 use mathlib.Core.List.{List, [], _∷_, _++_, map, append-assoc, append-nil}
 use Prim.Native.Nat.{ℕ, zero, suc, pred, _≤_}
@@ -19,6 +19,7 @@ use Rattle.rules.specs.Items.{Item, itemOf}
 use Rattle.rules.specs.Items as Items
 use Rattle.rules.specs.Reading.{noProgram, onLast, withItem, withItems, program}
 use Rattle.rules.proofs.LinesTaken.{lineOf, seen, Taken, TakenLines, TakenText, none, line}
+use Rattle.filling.proofs.Listed.{last-length}
 use Rattle.filling.proofs.Classes.{Classed, InClass, at-beginning, stands-in-class, next-classed, in-class-count, count-above}
 
 -- CHANGES of the last, and one more
@@ -34,12 +35,6 @@ last-changed f (a ∷ b ∷ l) zero d h = sym (ap (λ c. cond c (f a) a) (eqb·s
 last-changed f (a ∷ b ∷ l) (suc i) d h =
     last-changed f (b ∷ l) i d (omega arith)
     ∙ ap (λ c. cond c (f (getD (b ∷ l) i d)) (getD (b ∷ l) i d)) (sym (eqb·suc-suc (length l) i))
-
-last-length : {A : Type 0} (f : A → A) (l : List A) → length (onLast f l) ≡ length l
-unfolding onLast
-last-length f [] = refl
-last-length f (a ∷ []) = refl
-last-length f (a ∷ b ∷ l) = ap suc (last-length f (b ∷ l))
 
 empty-more : {A : Type 0} (l : List A) (i : ℕ) (d : A) → getD (l ++ (d ∷ [])) i d ≡ getD l i d
 empty-more [] zero d = refl

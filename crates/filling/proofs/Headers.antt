@@ -2,7 +2,7 @@
 use mathlib.Core.Path.{_≡_, refl, sym, ap, subst, _∙_}
 use mathlib.Core.Bool.{Bool, true, false, cond}
 use mathlib.Core.List.{List, [], _∷_, _++_, append-assoc}
-use Prim.Native.Nat.{ℕ, zero, suc, pred, _+_}
+use Prim.Native.Nat.{ℕ, suc, pred, _+_}
 use native.Mathlib.Omega.{arith}
 use lib.Dec.{T, eqb}
 use lib.ListN.{length, getD, length-append}
@@ -16,14 +16,14 @@ use Rattle.rules.specs.Scope.{Declarations, MethodDeclaration, Variable, Scope,
 use Rattle.rules.specs.Scope as Scope
 use Rattle.rules.specs.Names.{classNumber}
 use Rattle.rules.specs.Items.{Item, itemOf, aMethod}
-use Rattle.rules.specs.Reading.{onLast, withItem, withItems}
+use Rattle.rules.specs.Reading.{withItem, withItems}
 use Rattle.rules.specs.Fill.{scopeFrom}
 use Rattle.rules.proofs.Lists.{name-same}
 use Rattle.rules.proofs.LinesTaken.{lineOf, seen, Taken, TakenLines, none, line}
 use Rattle.filling.specs.Sets.{isHeader}
-use Rattle.filling.proofs.Listed.{index-after}
+use Rattle.filling.proofs.Listed.{index-after, last-length}
 use Rattle.filling.proofs.Classes.{Classed, InClass, next-classed, count-above}
-use Rattle.filling.proofs.Programs.{last-length, after-statement, stands-after-header}
+use Rattle.filling.proofs.Programs.{after-statement, stands-after-header}
 
 -- LINES that are taken, one by one
 module _ (text : List Line) where

@@ -1,9 +1,9 @@
 -- The lines of a text with atoms in the place of its stars are parted again as they were joined.
-use mathlib.Core.Path.{_≡_, refl, sym, ap, subst, _∙_}
+use mathlib.Core.Path.{_≡_, refl, ap, _∙_}
 use mathlib.Core.Bool.{Bool, true, false, cond}
 use mathlib.Core.List.{List, [], _∷_, _++_, append-nil}
-use Prim.Native.Nat.{ℕ, zero, suc}
-use lib.Dec.{eqb, T}
+use Prim.Native.Nat.{ℕ}
+use lib.Dec.{eqb}
 use Rattle.rules.specs.Base.{Name, bytes, all}
 use Rattle.rules.specs.Base as Base
 use Rattle.rules.specs.Text.{line-feed, onto, lines}

@@ -1,14 +1,15 @@
 -- Laws of lists that the other proofs share: a property of every element, parts of a list, the first that passes.
 use mathlib.Core.Path.{_≡_, refl, sym, ap, subst, _∙_}
 use mathlib.Core.Bool.{Bool, true, false, cond}
-use mathlib.Core.List.{List, [], _∷_, _++_, map}
+use mathlib.Core.List.{List, [], _∷_, _++_}
 use mathlib.Core.Logic.{⊎-elim}
-use mathlib.Core.Option.{Option, none, some}
-use Prim.Native.Nat.{ℕ, zero, suc, _≤_, _<_}
+use mathlib.Core.Option.{none, some}
+use Prim.Native.Nat.{ℕ, zero, suc, _<_}
 use native.Mathlib.Omega.{arith}
-use lib.Dec.{T, eqb}
+use lib.Dec.{T}
 use lib.ListN.{length, getD, take}
 use Rattle.rules.specs.Base.{Member, at-head, further, any, first, keep, index}
+use Rattle.rules.specs.Reading.{onLast}
 use Rattle.rules.proofs.Lists.{head-or, or-left, or-right, F-false, some-inj, none-some}
 
 module _ {A : Type 0} (Q : A → Type 0) where
@@ -47,6 +48,13 @@ module _ {A : Type 0} where
           cond b (a ∷ keep t (l ++ m)) (keep t (l ++ m)) ≡ cond b (a ∷ keep t l) (keep t l) ++ keep t m
       go true e = ap (λ r. a ∷ r) e
       go false e = e
+
+  -- with its last element changed
+  pub last-length : (f : A → A) (l : List A) → length (onLast f l) ≡ length l
+  unfolding onLast
+  last-length f [] = refl
+  last-length f (a ∷ []) = refl
+  last-length f (a ∷ b ∷ l) = ap suc (last-length f (b ∷ l))
 
   -- THE FIRST THAT PASSES
 

@@ -1,18 +1,17 @@
 -- The program of items with another formula at the star is the program with that requires of the star's method; number 10 is not changed.
 use mathlib.Core.Path.{_≡_, refl, sym, ap, subst, _∙_}
 use mathlib.Core.Bool.{Bool, true, false, cond}
-use mathlib.Core.List.{List, [], _∷_, _++_, append-assoc}
+use mathlib.Core.List.{List, [], _∷_, _++_}
 use Prim.Native.Nat.{ℕ, zero, suc, _+_, _≤_, _<_}
 use native.Mathlib.Omega.{arith}
-use lib.Dec.{T, eqb, leb, leb→le, le→leb, eqb-refl}
+use lib.Dec.{T, eqb, leb, leb→le}
 use lib.ListN.{length, length-append}
 use Rattle.rules.specs.Base.{Name, between}
-use Rattle.rules.specs.Answers.{Verdict, accepted, refused, unframed}
 use Rattle.rules.specs.Syntax.{Formula, Method, Program}
 use Rattle.rules.specs.Grammar.{Kind, Line, Class, Field, Requires, Ensures, Main, Var, statement, End, Return}
 use Rattle.rules.specs.Grammar.{afterMain, afterMethod, afterReturn, inBody, isKind, statementNumber}
 use Rattle.rules.specs.Grammar as Grammar
-use Rattle.rules.specs.Places.{Place, stageNumber, inPlace, placeAfter, stageAfter}
+use Rattle.rules.specs.Places.{Place, stageNumber, inPlace, placeAfter}
 use Rattle.rules.specs.Places as Places
 use Rattle.rules.specs.Scope.{Declarations, Variable, Scope, declarations, scopeAfter}
 use Rattle.rules.specs.Items.{Item, itemOf, aMethod, aRequires}
@@ -20,6 +19,7 @@ use Rattle.rules.specs.Reading.{noProgram, onLast, withRequires, withEnsures, w
 use Rattle.rules.proofs.Lists.{and-both}
 use Rattle.rules.proofs.LinesTaken.{lineOf, seen, Taken, TakenLines, none, line}
 use Rattle.filling.specs.Sets.{methodsWith, programWith}
+use Rattle.filling.proofs.Listed.{last-length}
 
 -- THE LAST METHOD
 
@@ -27,12 +27,6 @@ last-further : {A : Type 0} (f : A → A) (a : A) (l : List A) → 1 ≤ length 
 unfolding onLast
 last-further f a [] h = absurd (omega arith)
 last-further f a (b ∷ l) h = refl
-
-pub last-length : {A : Type 0} (f : A → A) (l : List A) → length (onLast f l) ≡ length l
-unfolding onLast
-last-length f [] = refl
-last-length f (a ∷ []) = refl
-last-length f (a ∷ b ∷ l) = ap suc (last-length f (b ∷ l))
 
 with-length : (m : ℕ) (φ : Formula ℕ) (Ms : List Method) → length (methodsWith m φ Ms) ≡ length Ms
 unfolding methodsWith
@@ -205,30 +199,30 @@ module _
     (text : List Line) (p : Place) (s : Scope) (below : List Line) (before after : List Item) (ts : TakenLines text p s below after)
     (past : T (eqb (stageNumber (p .stage)) 3) → ⊥)
   where
-  abbrev pub above : Program
-  above = withItems noProgram 0 before
+    abbrev pub above : Program
+    above = withItems noProgram 0 before
 
-  pub program-with :
-      (φ : Formula ℕ) →
-      program (before ++ fromHeader φ after) ≡ programWith (length (above .methods)) φ (program (before ++ fromHeader [] after))
-  unfolding program withItems
-  program-with φ =
-      let j : ℕ = 0 + length before in
-      let m : ℕ = length (above .methods) in
-      items-after noProgram 0 before (fromHeader φ after)
-      ∙ ap (λ Q. withItems Q (suc (suc j)) after) (header-last φ above (suc j))
-      ∙ lines-with text m φ p s below after ts (withItem (withItem above (suc j) aMethod) (suc (suc j)) (aRequires [])) (suc (suc j))
-      (header-passed p above (suc j) past)
-      ∙ ap (programWith m φ) (sym (items-after noProgram 0 before (fromHeader [] after)))
+    pub program-with :
+        (φ : Formula ℕ) →
+        program (before ++ fromHeader φ after) ≡ programWith (length (above .methods)) φ (program (before ++ fromHeader [] after))
+    unfolding program withItems
+    program-with φ =
+        let j : ℕ = 0 + length before in
+        let m : ℕ = length (above .methods) in
+        items-after noProgram 0 before (fromHeader φ after)
+        ∙ ap (λ Q. withItems Q (suc (suc j)) after) (header-last φ above (suc j))
+        ∙ lines-with text m φ p s below after ts (withItem (withItem above (suc j) aMethod) (suc (suc j)) (aRequires [])) (suc (suc j))
+        (header-passed p above (suc j) past)
+        ∙ ap (programWith m φ) (sym (items-after noProgram 0 before (fromHeader [] after)))
 
-  pub method-there : length (above .methods) < length (program (before ++ fromHeader [] after) .methods)
-  unfolding program withItems
-  method-there =
-      let j : ℕ = 0 + length before in
-      let m : ℕ = length (above .methods) in
-      subst (λ (P : Program). m < length (P .methods)) (sym (items-after noProgram 0 before (fromHeader [] after)))
-      (lines-passed text m [] p s below after ts (withItem (withItem above (suc j) aMethod) (suc (suc j)) (aRequires [])) (suc (suc j))
-      (header-passed p above (suc j) past))
+    pub method-there : length (above .methods) < length (program (before ++ fromHeader [] after) .methods)
+    unfolding program withItems
+    method-there =
+        let j : ℕ = 0 + length before in
+        let m : ℕ = length (above .methods) in
+        subst (λ (P : Program). m < length (P .methods)) (sym (items-after noProgram 0 before (fromHeader [] after)))
+        (lines-passed text m [] p s below after ts (withItem (withItem above (suc j) aMethod) (suc (suc j)) (aRequires [])) (suc (suc j))
+        (header-passed p above (suc j) past))
 
 -- NUMBER 10: one item that passes for another
 pub framed-with :

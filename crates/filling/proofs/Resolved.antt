@@ -1,18 +1,17 @@
 -- The line with a set in the place of its star passes 6, 7 and 9, and its item is the formula of the set's atoms.
-use mathlib.Core.Path.{_≡_, refl, sym, ap, ap₂, subst, _∙_}
-use mathlib.Core.Bool.{Bool, true, false, not, _&&_, _||_}
-use mathlib.Core.List.{List, [], _∷_, _++_, map}
+use mathlib.Core.Path.{_≡_, refl, ap, _∙_}
+use mathlib.Core.Bool.{Bool, true, not}
+use mathlib.Core.List.{List, [], _∷_, map}
 use Prim.Native.Nat.{ℕ}
 use lib.Dec.{T}
-use lib.ListN.{length}
-use Rattle.rules.specs.Base.{Name, ok, bytes, all}
+use Rattle.rules.specs.Base.{ok, all}
 use Rattle.rules.specs.Base as Base
 use Rattle.rules.specs.Answers.{undeclared, wrongType, wrongTarget}
-use Rattle.rules.specs.Syntax.{Atom, Formula, own, acc}
+use Rattle.rules.specs.Syntax.{Atom, own, acc}
 use Rattle.rules.specs.Syntax as Syntax
 use Rattle.rules.specs.Text.{formulaOf}
 use Rattle.rules.specs.Text as Text
-use Rattle.rules.specs.Grammar.{Line, Requires, variable, member, read, field}
+use Rattle.rules.specs.Grammar.{variable, member, read, field}
 use Rattle.rules.specs.Grammar as Grammar
 use Rattle.rules.specs.Scope.{Declarations, Variable, Scope, Slot, atomSlots}
 use Rattle.rules.specs.Scope as Scope

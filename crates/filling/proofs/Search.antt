@@ -1,9 +1,9 @@
 -- The search over texts is that over programs, the star's method is one of the program's, and the text with the set found is accepted.
-use mathlib.Core.Path.{_≡_, refl, sym, ap, ap₂, subst, _∙_}
+use mathlib.Core.Path.{_≡_, refl, sym, ap, subst, _∙_}
 use mathlib.Core.Bool.{Bool, true, false, cond}
-use mathlib.Core.List.{List, [], _∷_, _++_, map}
+use mathlib.Core.List.{List, _∷_, map}
 use mathlib.Core.Option.{Option, none, some}
-use Prim.Native.Nat.{ℕ, _≤_, _<_}
+use Prim.Native.Nat.{ℕ, _≤_}
 use native.Mathlib.Omega.{arith}
 use lib.Dec.{T, ltb, ltb→lt}
 use lib.ListN.{length, length-map}
@@ -13,22 +13,21 @@ use Rattle.rules.specs.Answers.{Verdict, accepted, refused, then, refusalNumber
 use Rattle.rules.specs.Syntax.{Formula, Program}
 use Rattle.rules.specs.Text.{lines}
 use Rattle.rules.specs.Grammar.{Line}
-use Rattle.rules.specs.Places.{firstPlace, scanLines}
-use Rattle.rules.specs.Scope.{Variable, declarations, firstScope}
-use Rattle.rules.specs.Items.{Item, resolveLines}
+use Rattle.rules.specs.Scope.{declarations}
+use Rattle.rules.specs.Items.{Item}
 use Rattle.rules.specs.Reading.{readLines, readText, checkFramed, program}
 use Rattle.rules.specs.Reading as Reading
 use Rattle.rules.specs.Rules.{checkProgram}
-use Rattle.rules.specs.Fill.{Access, starsFrom, accessesAt, setsOf, atPlaces, withAtoms}
+use Rattle.rules.specs.Fill.{Access, accessesAt, setsOf, atPlaces, withAtoms}
 use Rattle.rules.specs.Calls.{checkItems, verdictNumbers, checkText, isAccepted, acceptedWith, setFound, firstSet, fillStars, fillLines, fillSet}
-use Rattle.rules.proofs.Lists.{T-true, F-false, member-left, member-right}
+use Rattle.rules.proofs.Lists.{F-false, member-left, member-right}
 use Rattle.rules.proofs.Tries.{refused-accepted, accepted-inj, refusal-not-zero}
 use Rattle.filling.specs.Sets.{methodOfLine, accessesOfLine, formulaOf, programWith, isAcceptedWith, setIn, setFor}
 use Rattle.filling.specs.Claims.{joined, OneStar, SearchIsOverPrograms, StarHasMethod, AcceptedFirst, FilledIsAccepted}
 use Rattle.filling.proofs.Listed.{All, Found, first-agree, first-none, first-found}
 use Rattle.filling.proofs.Joined.{atoms-joined}
 use Rattle.filling.proofs.Resolved.{Good, atomOf, named-all, atoms-framed}
-use Rattle.filling.proofs.Accesses.{Within, numbered, formula-numbered, at-places, places-length}
+use Rattle.filling.proofs.Accesses.{numbered, formula-numbered, at-places, places-length}
 use Rattle.filling.proofs.Chosen.{set-within}
 use Rattle.filling.proofs.AtStar.{itemsWith}
 use Rattle.filling.proofs.StarRead.{StarRead, star-read}

@@ -1,13 +1,13 @@
 -- The lines of a text with one star: what stands above it and below it is read alike, whatever requires line stands there.
-use mathlib.Core.Path.{_≡_, refl, sym, ap, ap₂, subst, _∙_}
+use mathlib.Core.Path.{_≡_, refl, sym, ap, ap₂, _∙_}
 use mathlib.Core.Bool.{Bool, true, false, cond}
 use mathlib.Core.List.{List, [], _∷_, _++_}
-use Prim.Native.Nat.{ℕ, zero, suc, _+_}
+use Prim.Native.Nat.{ℕ, suc, _+_}
 use native.Mathlib.Omega.{arith}
 use lib.ListN.{length}
-use Rattle.rules.specs.Base.{Name, ok, _>>=_}
+use Rattle.rules.specs.Base.{Name, ok}
 use Rattle.rules.specs.Answers.{accepted, atLine, then}
-use Rattle.rules.specs.Grammar.{Kind, Line, Requires, Class, Field, Method, isKind}
+use Rattle.rules.specs.Grammar.{Line, Requires}
 use Rattle.rules.specs.Grammar as Grammar
 use Rattle.rules.specs.Places.{Place, Placed, scanLine, scanLines}
 use Rattle.rules.specs.Scope.{Declarations, Scope, classesOf, classesAbove, fieldsOf, methodsOf, declarations, scopeAfter}
@@ -85,6 +85,21 @@ pub record Scanned (us : List Name) (x : Name) (bs : List Name) (n : ℕ) (p : P
       (y : Name) (b : Line) → scanLine place y ≡ ok (record { line = b; next = star .next }) →
       scanLines (us ++ (y ∷ bs)) n p ≡ accepted (above ++ (b ∷ below))
 
+scan-further :
+    (w : Name) (us : List Name) (x : Name) (bs : List Name) (n : ℕ) (p : Place) (a : Placed) (rest ks : List Line) →
+    scanLine p w ≡ ok a → (a .line) ∷ rest ≡ ks → Scanned us x bs (suc n) (a .next) rest → Scanned (w ∷ us) x bs n p ks
+scan-further w us x bs n p a rest ks i e S =
+    record {
+      above = (a .line) ∷ (S .above);
+      below = S .below;
+      place = S .place;
+      star = S .star;
+      as-many = ap suc (S .as-many);
+      parts = sym e ∙ ap (λ r. (a .line) ∷ r) (S .parts);
+      scanned = S .scanned;
+      replaced = λ y b h. scan-line w (us ++ (y ∷ bs)) n p a _ i (S .replaced y b h);
+    }
+
 pub scan-parts :
     (us : List Name) (x : Name) (bs : List Name) (n : ℕ) (p : Place) (ks : List Line) →
     scanLines (us ++ (x ∷ bs)) n p ≡ accepted ks → Scanned us x bs n p ks
@@ -105,17 +120,7 @@ scan-parts [] x bs n p ks e =
 scan-parts (w ∷ us) x bs n p ks e =
     let (a, i, e₁) = atLine-accepted (suc n) (scanLine p w) _ ks e in
     let (rest, j, e₂) = then-accepted (scanLines (us ++ (x ∷ bs)) (suc n) (a .next)) _ ks e₁ in
-    let S = scan-parts us x bs (suc n) (a .next) rest j in
-    record {
-      above = (a .line) ∷ (S .above);
-      below = S .below;
-      place = S .place;
-      star = S .star;
-      as-many = ap suc (S .as-many);
-      parts = sym (accepted-inj e₂) ∙ ap (λ r. (a .line) ∷ r) (S .parts);
-      scanned = S .scanned;
-      replaced = λ y b h. scan-line w (us ++ (y ∷ bs)) n p a _ i (S .replaced y b h);
-    }
+    scan-further w us x bs n p a rest ks i (accepted-inj e₂) (scan-parts us x bs (suc n) (a .next) rest j)
 
 -- SECOND PASS
 
@@ -138,6 +143,22 @@ pub record Resolved (Γ : Declarations) (above : List Line) (k : Line) (below : 
       resolveLine Γ (scopeFrom s above) c ≡ ok a →
       resolveLines Γ (above ++ (c ∷ below)) n s ≡ accepted (before ++ (a ∷ after))
 
+resolve-further :
+    (Γ : Declarations) (l : Line) (above : List Line) (k : Line) (below : List Line) (n : ℕ) (s : Scope) (a : Item) (rest items : List Item) →
+    resolveLine Γ s l ≡ ok a → a ∷ rest ≡ items → Resolved Γ above k below (suc n) (scopeAfter s l) rest →
+    Resolved Γ (l ∷ above) k below n s items
+unfolding scopeFrom
+resolve-further Γ l above k below n s a rest items i e S =
+    record {
+      before = a ∷ (S .before);
+      after = S .after;
+      star = S .star;
+      as-many = ap suc (S .as-many);
+      parts = sym e ∙ ap (λ r. a ∷ r) (S .parts);
+      resolved = S .resolved;
+      replaced = λ c b q h. resolve-line Γ l (above ++ (c ∷ below)) n s _ a _ i refl (S .replaced c b q h);
+    }
+
 pub resolve-parts :
     (Γ : Declarations) (above : List Line) (k : Line) (below : List Line) (n : ℕ) (s : Scope) (items : List Item) →
     resolveLines Γ (above ++ (k ∷ below)) n s ≡ accepted items → Resolved Γ above k below n s items
@@ -157,16 +178,7 @@ resolve-parts Γ [] k below n s items e =
 resolve-parts Γ (l ∷ above) k below n s items e =
     let (a, i, e₁) = atLine-accepted (suc n) (resolveLine Γ s l) _ items e in
     let (rest, j, e₂) = then-accepted (resolveLines Γ (above ++ (k ∷ below)) (suc n) (scopeAfter s l)) _ items e₁ in
-    let S = resolve-parts Γ above k below (suc n) (scopeAfter s l) rest j in
-    record {
-      before = a ∷ (S .before);
-      after = S .after;
-      star = S .star;
-      as-many = ap suc (S .as-many);
-      parts = sym (accepted-inj e₂) ∙ ap (λ r. a ∷ r) (S .parts);
-      resolved = S .resolved;
-      replaced = λ c b q h. resolve-line Γ l (above ++ (c ∷ below)) n s _ a _ i refl (S .replaced c b q h);
-    }
+    resolve-further Γ l above k below n s a rest items i (accepted-inj e₂) (resolve-parts Γ above k below (suc n) (scopeAfter s l) rest j)
 
 -- DECLARATIONS: a requires line adds none
 

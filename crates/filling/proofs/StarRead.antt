@@ -1,14 +1,14 @@
 -- A text with one star is read with a set in its place as the items with that formula there.
-use mathlib.Core.Path.{_≡_, refl, sym, ap, ap₂, subst, _∙_}
+use mathlib.Core.Path.{_≡_, refl, sym, ap, subst, _∙_}
 use mathlib.Core.Bool.{true}
 use mathlib.Core.List.{List, [], _∷_, _++_, map}
-use Prim.Native.Nat.{ℕ, zero, suc, pred, _+_, _≤_, _<_}
+use Prim.Native.Nat.{ℕ, suc, pred, _+_, _≤_, _<_}
 use native.Mathlib.Omega.{arith}
 use lib.ListN.{length, take}
 use lib.Seq.{take-append-seam}
 use Rattle.rules.specs.Base.{Name, Member, ok, _>>=_, keep}
 use Rattle.rules.specs.Limits.{most-filled}
-use Rattle.rules.specs.Answers.{Verdict, accepted, then}
+use Rattle.rules.specs.Answers.{accepted, then}
 use Rattle.rules.specs.Syntax.{Formula}
 use Rattle.rules.specs.Grammar.{Line, Requires, readLine}
 use Rattle.rules.specs.Places.{Place, Placed, firstPlace, placeLine, scanLine, scanLines}
@@ -23,10 +23,10 @@ use Rattle.filling.specs.Sets.{isHeader, methodOfLine, accessesOfLine, p
 use Rattle.filling.specs.Claims.{OneStar}
 use Rattle.filling.proofs.Listed.{All, take-part}
 use Rattle.filling.proofs.Words.{Named, requiresOf, line-read}
-use Rattle.filling.proofs.Taken.{Stands, line-stands, lines-taken}
+use Rattle.filling.proofs.Taken.{line-stands, lines-taken}
 use Rattle.filling.proofs.Star.{Parts, one-star, Scanned, scan-parts, Resolved, resolve-parts, same-declarations, same-scope}
 use Rattle.filling.proofs.Programs.{framed-with}
-use Rattle.filling.proofs.Resolved.{Good, atomOf, named-all, line-resolved, atoms-framed}
+use Rattle.filling.proofs.Resolved.{Good, atomOf, named-all, line-resolved}
 use Rattle.filling.proofs.Accesses.{numbered}
 use Rattle.filling.proofs.AtStar.{linesWith, itemsWith, starMethod, variables, star-variables, star-method, star-good, star-numbers, star-program, star-there}
 

@@ -1,11 +1,11 @@
 -- A requires line with acc atoms: its bytes are clean, its fields are its words, and it is read as a requires line.
 use mathlib.Core.Path.{_≡_, refl, sym, ap, subst, _∙_}
-use mathlib.Core.Bool.{Bool, true, false, cond, _&&_, _||_}
+use mathlib.Core.Bool.{Bool, false, cond, _&&_}
 use mathlib.Core.List.{List, [], _∷_, _++_}
 use mathlib.Core.Logic.{⊎-elim}
 use Prim.Native.Nat.{ℕ, zero, suc, _≤_, _-_}
 use native.Mathlib.Omega.{arith}
-use lib.Dec.{T, eqb, leb, leb→le, le→leb, eqb→eq, eqb-refl, lit≤}
+use lib.Dec.{T, eqb, leb, leb→le, le→leb, eqb→eq, lit≤}
 use lib.ListN.{length, getD, drop}
 use Rattle.rules.specs.Base.{Name, Try, ok, _>>=_, _>>_, check, orElse, bytes, all, between}
 use Rattle.rules.specs.Base as Base
@@ -16,7 +16,7 @@ use Rattle.rules.specs.Text as Text
 use Rattle.rules.specs.Grammar.{Line, Requires, form, isFormed, kindOf, readLine}
 use Rattle.rules.specs.Grammar as Grammar
 use Rattle.rules.specs.Fill.{Access, tabbed, requiresLine, atomWords}
-use Rattle.rules.proofs.Lists.{and-intro, and-both, or-cases, or-left, or-right, F-false, T-true}
+use Rattle.rules.proofs.Lists.{and-intro, and-both, or-cases, or-right, F-false}
 use Rattle.rules.proofs.Tries.{pass}
 use Rattle.filling.proofs.Listed.{All}
 
