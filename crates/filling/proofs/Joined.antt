@@ -101,9 +101,9 @@ module _ (αs : List Access) (h : All Named αs) where
       go true p = line (line-whole αs h) p
       go false p = line o p
 
-  pub lines-joined : (t : List ℕ) → lines (joined (withAtoms αs (lines t))) ≡ withAtoms αs (lines t)
-  lines-joined t = found-again (withAtoms αs (lines t)) (with-parted (lines t) (lines-parted t))
+  pub atoms-joined : (t : List ℕ) → lines (joined (withAtoms αs (lines t))) ≡ withAtoms αs (lines t)
+  atoms-joined t = found-again (withAtoms αs (lines t)) (with-parted (lines t) (lines-parted t))
 
 -- with no atom
-pub plain-joined : (t : List ℕ) → lines (joined (withAtoms [] (lines t))) ≡ withAtoms [] (lines t)
-plain-joined t = lines-joined [] tt t
+pub lines-joined : (t : List ℕ) → lines (joined (withAtoms [] (lines t))) ≡ withAtoms [] (lines t)
+lines-joined t = atoms-joined [] tt t

@@ -130,6 +130,7 @@ pub record Resolved (Γ : Declarations) (above : List Line) (k : Line) (below : 
   pub before : List Item
   pub after : List Item
   pub star : Item
+  pub as-many : length before ≡ length above
   pub parts : items ≡ before ++ (star ∷ after)
   pub resolved : resolveLine Γ (scopeFrom s above) k ≡ ok star
   pub replaced :
@@ -148,6 +149,7 @@ resolve-parts Γ [] k below n s items e =
       before = [];
       after = rest;
       star = a;
+      as-many = refl;
       parts = sym (accepted-inj e₂);
       resolved = i;
       replaced = λ c b q h. resolve-line Γ c below n s _ b rest h q j;
@@ -160,6 +162,7 @@ resolve-parts Γ (l ∷ above) k below n s items e =
       before = a ∷ (S .before);
       after = S .after;
       star = S .star;
+      as-many = ap suc (S .as-many);
       parts = sym (accepted-inj e₂) ∙ ap (λ r. a ∷ r) (S .parts);
       resolved = S .resolved;
       replaced = λ c b q h. resolve-line Γ l (above ++ (c ∷ below)) n s _ a _ i refl (S .replaced c b q h);

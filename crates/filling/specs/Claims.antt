@@ -28,13 +28,13 @@ pub record OneStar (ls : List Name) (ks : List Line) (items : List Item) (l : �
   pub star : starsFrom 0 ls ≡ l ∷ []
 
 -- the search over texts is that over programs
-pub SearchIsOverPrograms : Type 0
+abbrev pub SearchIsOverPrograms : Type 0
 SearchIsOverPrograms =
     (ls : List Name) (ks : List Line) (items : List Item) (l : ℕ) → OneStar ls ks items l →
     firstSet ls ks l ≡ setFound l (setFor items (methodOfLine ks l) (accessesOfLine (declarations ks) items (methodOfLine ks l)))
 
 -- the star's method is one of the program's
-pub StarHasMethod : Type 0
+abbrev pub StarHasMethod : Type 0
 StarHasMethod =
     (ls : List Name) (ks : List Line) (items : List Item) (l : ℕ) → OneStar ls ks items l →
     methodOfLine ks l < length (program items .methods)
@@ -52,7 +52,7 @@ pub record AcceptedFirst (t : List ℕ) (ps : List ℕ) (ks : List Line) (l : �
       (qs : List ℕ) → Member qs before →
       checkText (joined (withAtoms (atPlaces (accessesAt ks l) qs) (lines t))) ≡ (0, 0) → ⊥
 
-pub FilledIsAccepted : Type 0
+abbrev pub FilledIsAccepted : Type 0
 FilledIsAccepted =
     (t : List ℕ) (ks : List Line) (items : List Item) (l : ℕ) (ps : List ℕ) → OneStar (lines t) ks items l →
     fillSet t ≡ accepted ps → AcceptedFirst t ps ks l
