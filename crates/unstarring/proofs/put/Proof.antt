@@ -3,7 +3,7 @@ use mathlib.Core.Path.{_≡_, refl, sym, ap, _∙_}
 use mathlib.Core.List.{List, _++_, append-nil}
 use Prim.Native.Nat.{ℕ, _+_, _-_, _≤_}
 use native.Mathlib.Omega.{arith}
-use lib.ListN.{length, take, getD, length-set}
+use lib.ListN.{length, take, length-set}
 use lib.Seq.{take-all}
 use Rattle.unstarring.proofs.Lines.{put-on}
 use Rattle.unstarring.proofs.put.Statement.{statement}

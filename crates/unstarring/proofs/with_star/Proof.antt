@@ -1,6 +1,5 @@
 -- `unstarring::with_star` meets its contract. Assumes nothing.
 use borrow.Author.Tests.{eq-eqb, ne-eqb}
-use mathlib.Core.Path.{_≡_, refl, sym, ap, _∙_}
 use Rattle.unstarring.specs.Copies.{withStar}
 use Rattle.unstarring.proofs.with_star.Statement.{statement}
 use Rattle.unstarring.proofs.with_star.Tie as tie
