@@ -12,7 +12,6 @@ ghost use Rattle.rules.specs.Limits.{work-bytes};
 ghost use Rattle.rules.specs.Scope.{declarations};
 ghost use Rattle.rules.specs.Names.{classNumber};
 ghost use Rattle.filling.specs.Sets.{headerOf};
-ghost use Rattle.tables.specs.Decode.{classCount};
 ghost use Rattle.read_scan.specs.Table.{most-lines};
 ghost use Rattle.read_declarations.specs.Texts.{linesOf};
 ghost use Rattle.reader.specs.Readings.{Tabled};
