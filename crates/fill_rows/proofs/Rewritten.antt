@@ -110,6 +110,9 @@ module _ (w : List ℕ) (m n : ℕ) (S : Spared w m n) (a x f : ℕ) (low : n �
             (S .tables .method-fits m (S .method) .formulas .requires);
       }
 
+  pub acc-size : length (putAcc w a x f) ≡ length w
+  acc-size = acc-rewrites .size
+
   pub acc-spared : Spared (putAcc w a x f) m n
   acc-spared = spared-rewritten w (putAcc w a x f) m n S acc-rewrites
 
