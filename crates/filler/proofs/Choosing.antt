@@ -74,9 +74,10 @@ left-get (a ∷ l) m zero d h = refl
 left-get (a ∷ l) m (suc i) d h = left-get l m i d (omega arith)
 
 right-get : {A : Type 0} (l m : List A) (i : ℕ) (d : A) → length l ≤ i → getD (l ++ m) i d ≡ getD m (i - length l) d
-right-get [] m i d h = refl
+right-get [] m i d h = ap (λ k. getD m k d) (let z : i ≡ i - 0 = omega arith in z)
 right-get (a ∷ l) m zero d h = absurd (omega arith)
-right-get (a ∷ l) m (suc i) d h = right-get l m i d (omega arith)
+right-get (a ∷ l) m (suc i) d h =
+    right-get l m i d (omega arith) ∙ ap (λ k. getD m k d) (let z : i - length l ≡ suc i - suc (length l) = omega arith in z)
 
 pub fields-length : (x : ℕ) (fs : List Field) → length (fieldsOf x fs) ≡ length fs
 unfolding fieldsOf
@@ -146,7 +147,7 @@ formula-more αs [] p = refl
 formula-more αs (q ∷ ps) p = ap (λ r. own acc (getD αs (pred q) noAccess .variable) (getD αs (pred q) noAccess .field) ∷ r) (formula-more αs ps p)
 
 module _ (w : List ℕ) (s : Sought) (b : List ℕ) (i p : ℕ) (r : Ready w s) (few : i < most-filled) (four : length b ≡ places-bytes) (a : Access) (at : AccessIs w s p a) where
-  v : List ℕ
+  abbrev pub v : List ℕ
   v = putAcc w (s .first + i) (a .variable) (a .field)
 
   low : s .first ≤ s .first + i
@@ -156,18 +157,15 @@ module _ (w : List ℕ) (s : Sought) (b : List ℕ) (i p : ℕ) (r : Ready w s) 
   high = omega arith
 
   same : SameBut (s .method) w v
-  unfolding v
   same = acc-same w (s .method) (s .first) (r .spared) (s .first + i) (a .variable) (a .field) low high (at .few) (at .names)
 
   kept : Kept atoms-at (atomPlace (s .first + i)) w v
-  unfolding v
   kept = before-kept w (s .method) (s .first) (r .spared) (s .first + i) (a .variable) (a .field) low high (at .few) (at .names)
 
   place-same : (j : ℕ) → j < i → byteAt (set b i p) j ≡ byteAt b j
   place-same j l = getD-set-other b i j p 0 (λ e. omega arith)
 
   more : HasSet w s b i → HasSet v s (set b i p) (suc i)
-  unfolding v
   more h =
       record {
         there = λ c l k.
@@ -189,7 +187,6 @@ module _ (w : List ℕ) (s : Sought) (b : List ℕ) (i p : ℕ) (r : Ready w s) 
           ∙ (λ j. run-same (byteAt b) (byteAt (set b i p)) 0 i (λ k _ l. place-same k (omega arith)) j ++ ((ap (byteAt (set b i p)) (zero-add i) ∙ getD-set-same b i p 0 (omega arith)) j ∷ []))
 
   pub chosen : Chosen w s b i p v (set b i p)
-  unfolding v
   chosen =
       record {
         ready = ready-same w v s same r (acc-spared w (s .method) (s .first) (r .spared) (s .first + i) (a .variable) (a .field) low high (at .few) (at .names));

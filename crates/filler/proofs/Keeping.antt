@@ -75,7 +75,7 @@ module _ (w : List ℕ) (s : Sought) (k : ℕ) (r : Ready w s) (w′ : List ℕ)
       ap (λ P. isAccepted (checkProgram P)) (sym e)
       ∙ (accepted-by-parts (programIn w′) (s .method) l
       ∙ (ap (λ b. isAccepted (blockVerdict (programIn w′) (s .method)) && (othersPass (programIn w′) (s .method) true && b)) apart
-      ∙ and-true _ _))
+      ∙ and-true (isAccepted (blockVerdict (programIn w′) (s .method))) (othersPass (programIn w′) (s .method) true)))
 
   -- the method's own block is accepted, and then the others decide
   pub own-accepted : (a b : Bool) → a ≡ true → a ≡ isAccepted (blockVerdict (programIn w′) (s .method)) → b ≡ othersPass (programIn w′) (s .method) true → Tried w s k b w′
