@@ -1,27 +1,26 @@
 -- One place more: which atom stands there, and the set with it.
-use mathlib.Core.Path.{_≡_, refl, sym, ap, subst, _∙_}
+use mathlib.Core.Path.{_≡_, refl, sym, ap, _∙_}
 use mathlib.Core.Bool.{Bool, true, false}
 use mathlib.Core.List.{List, [], _∷_, _++_}
 use mathlib.Core.Logic.{⊎-elim}
 use Prim.Native.Nat.{ℕ, zero, suc, pred, _+_, _-_, _≤_, _<_}
 use native.Mathlib.Omega.{arith}
 use native.Mathlib.Nat.{zero-add}
-use native.Mathlib.Numerals.{add-one}
 use lib.Dec.{ltb}
 use borrow.Author.Tests.{ltb-true, ltb-false}
 use lib.ListN.{length, getD, set, length-set}
 use lib.Seq.{getD-set-same, getD-set-other}
 use Rattle.rules.specs.Limits.{most-fields, most-filled, most-classes, places-bytes}
-use Rattle.rules.specs.Syntax.{Atom, Formula, Field, own, acc, this-variable, parameter}
+use Rattle.rules.specs.Syntax.{Field, own, acc, this-variable, parameter}
 use Rattle.rules.specs.Reading as Reading
 use Rattle.rules.proofs.Lists.{decide-eq}
 use Rattle.filling.specs.Sets.{fieldsOf, accessesIn, noAccess, formulaOf}
-use Rattle.tables.specs.Layout.{most-names, frame-variables, atoms-at}
-use Rattle.tables.specs.Decode.{run, byteAt, atomPlace, atomAt, atomsFrom, classCount, classAt, fieldAt, fieldCountAt, fieldNameAt, programIn}
+use Rattle.tables.specs.Layout.{most-names, atoms-at}
+use Rattle.tables.specs.Decode.{byteAt, atomPlace, atomAt, classCount, classAt, fieldAt, fieldCountAt, fieldNameAt, programIn}
 use Rattle.tables.specs.Tables.{Tables}
 use Rattle.tables.specs.Stores.{Kept}
 use Rattle.tables.proofs.Rows.{class-get, class-length}
-use Rattle.tables.proofs.Runs.{run-more, run-same, run-get, run-past, run-length}
+use Rattle.tables.proofs.Runs.{run-more, run-same, run-get, run-past}
 use Rattle.fill_rows.specs.Rewrites.{SameBut}
 use Rattle.fill_rows.proofs.Rewritten.{putAcc, acc-read, acc-fits, before-kept, acc-spared, acc-same, acc-size}
 use Rattle.filler.specs.declared.Sought.{Sought}

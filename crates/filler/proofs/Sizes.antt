@@ -12,18 +12,17 @@ use Rattle.rules.specs.Syntax.{Formula, this-variable, parameter}
 use Rattle.rules.specs.Rules.{checkProgram}
 use Rattle.rules.specs.Fill.{placesFrom, choose, chooseUpTo, setsOf}
 use Rattle.rules.specs.Calls.{isAccepted}
-use Rattle.rules.proofs.Lists.{none-some}
 use Rattle.filling.specs.Sets.{fieldsOf, accessesIn, formulaOf, programWith, isAcceptedWith, setIn}
 use Rattle.tables.specs.Decode.{run, byteAt, atomCount, methodCount, programIn}
 use Rattle.tables.specs.Tables.{Tables}
-use Rattle.fill_rows.specs.Rewrites.{Spared, SameBut}
+use Rattle.fill_rows.specs.Rewrites.{SameBut}
 use Rattle.fill_rows.proofs.Rewritten.{same-trans}
 use Rattle.fill_blocks.specs.Blocks.{blockVerdict, othersPass}
 use Rattle.fill_blocks.proofs.Calling.{methods-are}
 use Rattle.fill_blocks.proofs.Apart.{others-apart, count-same}
 use Rattle.fill_blocks.proofs.Passing.{accepted-by-parts}
 use Rattle.filler.specs.declared.Sought.{Sought}
-use Rattle.filler.specs.Search.{accessesOf, Ready, placesIn, HasSet, passesWith, Seeking, Finds, Fits, Held, SetIs, Fills}
+use Rattle.filler.specs.Search.{accessesOf, Ready, placesIn, passesWith, Seeking, Finds, Fits, Held, SetIs, Fills}
 use Rattle.filler.proofs.Firsts.{first-left, first-right, first-same}
 use Rattle.filler.proofs.Choosing.{fields-length}
 use Rattle.filler.proofs.Keeping.{passes-same}

@@ -1,3 +1,4 @@
+-- `filler::find` meets its contract. Assumes nothing.
 use mathlib.Core.Path.{sym, _∙_}
 use native.Mathlib.Omega.{arith}
 use Rattle.filler.proofs.Finding.{complete, no-place-left, seeks-with, taken, seeks-without, passed-over}
@@ -21,7 +22,6 @@ find-at t = and 2 find-kinds.ps (is 2 find-kinds.ps μ-find t) find.Pre
 abbrev find-below : ℕ → In 2 find-kinds.ps
 find-below t = and 2 find-kinds.ps (falls 2 find-kinds.ps _<_ μ-find t) find.Pre
 
--- src/lib.rt:106:9
 find-accepted-with-requires : (t : ℕ) → find-lts.Need-accepted-with-requires (
   accepted-with-reads.Asked,
   accepted-with-reads.Learnt,
@@ -33,7 +33,6 @@ find-accepted-with-requires : (t : ℕ) → find-lts.Need-accepted-with-requires
 find-accepted-with-requires t c κs =
     let S = c .before .before .before .before .pre .1 in (S .ready, omega (arith, S .room), S .set .there)
 
--- src/lib.rt:106:9
 find-same-length : (t : ℕ) → find-lts.Need-same-length (
   accepted-with-reads.Asked,
   accepted-with-reads.Learnt,
@@ -45,7 +44,6 @@ find-same-length : (t : ℕ) → find-lts.Need-same-length (
 find-same-length t c =
     c .before .before .accepted-with .ensures .put .size
 
--- src/lib.rt:106:9
 find-returns : (t : ℕ) → find-lts.Need-returns (
   accepted-with-reads.Asked,
   accepted-with-reads.Learnt,
@@ -55,9 +53,11 @@ find-returns : (t : ℕ) → find-lts.Need-returns (
   find.Post,
 ) (find-at t) find.Post
 find-returns t c =
-    complete _ _ _ _ _ _ _ _ (c .before .before .before .before .if1 .taken) (c .before .before .before .before .before .before .before .pre .1) (c .before .before .accepted-with .ensures)
+    let start = c .before .before .before .before .before .before .before in
+    let at-if1 = c .before .before .before .before .if1 in
+    let at-accepted-with = c .before .before .accepted-with in
+    complete _ _ _ _ _ _ _ _ (at-if1 .taken) (start .pre .1) (at-accepted-with .ensures)
 
--- src/lib.rt:109:9
 find-returns-2 : (t : ℕ) → find-lts.Need-returns-2 (
   accepted-with-reads.Asked,
   accepted-with-reads.Learnt,
@@ -69,7 +69,6 @@ find-returns-2 : (t : ℕ) → find-lts.Need-returns-2 (
 find-returns-2 t c =
     no-place-left _ _ _ _ _ _ (c .before .before .if1 .left) (c .if2 .taken) (c .before .before .before .before .before .pre .1)
 
--- src/lib.rt:111:5
 find-choose-requires : (t : ℕ) → find-lts.Need-choose-requires (
   accepted-with-reads.Asked,
   accepted-with-reads.Learnt,
@@ -79,9 +78,11 @@ find-choose-requires : (t : ℕ) → find-lts.Need-choose-requires (
   find.Post,
 ) (find-at t) find.Post
 find-choose-requires t c κs =
-    let S = c .before .before .before .before .before .before .before .pre .1 in (S .ready, S .low, c .before .before .if2 .left, omega (arith, S .room, c .before .before .before .before .if1 .left), S .four)
+    let start = c .before .before .before .before .before .before .before in
+    let at-if1 = c .before .before .before .before .if1 in
+    let at-if2 = c .before .before .if2 in
+    let S = start .pre .1 in (S .ready, S .low, at-if2 .left, omega (arith, S .room, at-if1 .left), S .four)
 
--- src/lib.rt:112:30
 find-sub-find : (t : ℕ) → find-lts.Need-sub-find (
   accepted-with-reads.Asked,
   accepted-with-reads.Learnt,
@@ -93,7 +94,6 @@ find-sub-find : (t : ℕ) → find-lts.Need-sub-find (
 find-sub-find t c =
     omega (arith, c .before .before .before .before .before .before .before .before .before .before .before .if1 .left)
 
--- src/lib.rt:112:40
 find-add-find : (t : ℕ) → find-lts.Need-add-find (
   accepted-with-reads.Asked,
   accepted-with-reads.Learnt,
@@ -105,7 +105,6 @@ find-add-find : (t : ℕ) → find-lts.Need-add-find (
 find-add-find t c =
     omega (arith, c .before .before .before .before .before .before .before .before .before .before .before .before .before .before .pre .1 .room)
 
--- src/lib.rt:112:52
 find-add-find-2 : (t : ℕ) → find-lts.Need-add-find-2 (
   accepted-with-reads.Asked,
   accepted-with-reads.Learnt,
@@ -115,9 +114,10 @@ find-add-find-2 : (t : ℕ) → find-lts.Need-add-find-2 (
   find.Post,
 ) (find-at t) find.Post
 find-add-find-2 t c =
-    let r = c .before .before .before .before .before .before .before .before .before .before .before .before .before .before .pre .1 .ready in omega (arith, c .before .before .before .before .before .before .before .before .before .if2 .left, r .few, r .own-few)
+    let start = c .before .before .before .before .before .before .before .before .before .before .before .before .before .before in
+    let at-if2 = c .before .before .before .before .before .before .before .before .before .if2 in
+    let r = start .pre .1 .ready in omega (arith, at-if2 .left, r .few, r .own-few)
 
--- src/lib.rt:112:8
 find-find-requires : (t : ℕ) → find-lts.Need-find-requires (
   accepted-with-reads.Asked,
   accepted-with-reads.Learnt,
@@ -127,9 +127,12 @@ find-find-requires : (t : ℕ) → find-lts.Need-find-requires (
   find.Post,
 ) (find-at t) find.Post
 find-find-requires t c κs =
-    (omega (arith, c .before .before .before .before .before .before .before .before .before .before .before .before .before .before .pre .0, c .before .before .before .before .before .before .before .before .before .before .before .if1 .left, c .before .before .before .before .before .before .before .before .before .if2 .left), seeks-with _ _ _ _ _ _ (c .before .before .before .before .before .before .before .before .before .before .before .if1 .left) (c .before .before .before .before .before .before .before .before .before .if2 .left) (c .before .before .before .before .before .before .before .before .before .before .before .before .before .before .pre .1) _ _ (c .before .before .before .before .before .before .choose .ensures))
+    let start = c .before .before .before .before .before .before .before .before .before .before .before .before .before .before in
+    let at-if1 = c .before .before .before .before .before .before .before .before .before .before .before .if1 in
+    let at-if2 = c .before .before .before .before .before .before .before .before .before .if2 in
+    let at-choose = c .before .before .before .before .before .before .choose in
+    (omega (arith, start .pre .0, at-if1 .left, at-if2 .left), seeks-with _ _ _ _ _ _ (at-if1 .left) (at-if2 .left) (start .pre .1) _ _ (at-choose .ensures))
 
--- src/lib.rt:113:9
 find-same-length-2 : (t : ℕ) → find-lts.Need-same-length-2 (
   accepted-with-reads.Asked,
   accepted-with-reads.Learnt,
@@ -139,9 +142,10 @@ find-same-length-2 : (t : ℕ) → find-lts.Need-same-length-2 (
   find.Post,
 ) (find-at t) find.Post
 find-same-length-2 t c =
-    c .before .before .before .before .before .find .ensures .size ∙ c .before .before .before .before .before .before .before .before .before .before .before .before .choose .ensures .size
+    let at-choose = c .before .before .before .before .before .before .before .before .before .before .before .before .choose in
+    let at-find = c .before .before .before .before .before .find in
+    at-find .ensures .size ∙ at-choose .ensures .size
 
--- src/lib.rt:113:9
 find-same-length-3 : (t : ℕ) → find-lts.Need-same-length-3 (
   accepted-with-reads.Asked,
   accepted-with-reads.Learnt,
@@ -151,9 +155,10 @@ find-same-length-3 : (t : ℕ) → find-lts.Need-same-length-3 (
   find.Post,
 ) (find-at t) find.Post
 find-same-length-3 t c =
-    c .before .before .before .before .before .find .ensures .four ∙ sym (c .before .before .before .before .before .before .before .before .before .before .before .before .before .before .before .before .before .before .before .before .pre .1 .four)
+    let start = c .before .before .before .before .before .before .before .before .before .before .before .before .before .before .before .before .before .before .before .before in
+    let at-find = c .before .before .before .before .before .find in
+    at-find .ensures .four ∙ sym (start .pre .1 .four)
 
--- src/lib.rt:113:9
 find-returns-3 : (t : ℕ) → find-lts.Need-returns-3 (
   accepted-with-reads.Asked,
   accepted-with-reads.Learnt,
@@ -163,9 +168,13 @@ find-returns-3 : (t : ℕ) → find-lts.Need-returns-3 (
   find.Post,
 ) (find-at t) find.Post
 find-returns-3 t c =
-    taken _ _ _ _ _ _ (c .before .before .before .before .before .before .before .before .before .before .before .before .before .before .before .before .before .if1 .left) (c .before .before .before .before .before .before .before .before .before .before .before .before .before .before .before .if2 .left) (c .before .before .before .before .before .before .before .before .before .before .before .before .before .before .before .before .before .before .before .before .pre .1) _ _ (c .before .before .before .before .before .before .before .before .before .before .before .before .choose .ensures) _ _ _ (c .before .before .before .before .before .find .ensures) (c .if3 .taken)
+    let start = c .before .before .before .before .before .before .before .before .before .before .before .before .before .before .before .before .before .before .before .before in
+    let at-if1 = c .before .before .before .before .before .before .before .before .before .before .before .before .before .before .before .before .before .if1 in
+    let at-if2 = c .before .before .before .before .before .before .before .before .before .before .before .before .before .before .before .if2 in
+    let at-choose = c .before .before .before .before .before .before .before .before .before .before .before .before .choose in
+    let at-find = c .before .before .before .before .before .find in
+    taken _ _ _ _ _ _ (at-if1 .left) (at-if2 .left) (start .pre .1) _ _ (at-choose .ensures) _ _ _ (at-find .ensures) (c .if3 .taken)
 
--- src/lib.rt:115:41
 find-add-find-3 : (t : ℕ) → find-lts.Need-add-find-3 (
   accepted-with-reads.Asked,
   accepted-with-reads.Learnt,
@@ -175,9 +184,10 @@ find-add-find-3 : (t : ℕ) → find-lts.Need-add-find-3 (
   find.Post,
 ) (find-at t) find.Post
 find-add-find-3 t c =
-    let r = c .before .before .before .before .before .before .before .before .before .before .before .before .before .before .before .before .before .before .before .before .before .before .pre .1 .ready in omega (arith, c .before .before .before .before .before .before .before .before .before .before .before .before .before .before .before .before .before .if2 .left, r .few, r .own-few)
+    let start = c .before .before .before .before .before .before .before .before .before .before .before .before .before .before .before .before .before .before .before .before .before .before in
+    let at-if2 = c .before .before .before .before .before .before .before .before .before .before .before .before .before .before .before .before .before .if2 in
+    let r = start .pre .1 .ready in omega (arith, at-if2 .left, r .few, r .own-few)
 
--- src/lib.rt:115:5
 find-find-requires-2 : (t : ℕ) → find-lts.Need-find-requires-2 (
   accepted-with-reads.Asked,
   accepted-with-reads.Learnt,
@@ -187,9 +197,14 @@ find-find-requires-2 : (t : ℕ) → find-lts.Need-find-requires-2 (
   find.Post,
 ) (find-at t) find.Post
 find-find-requires-2 t c κs =
-    (omega (arith, c .before .before .before .before .before .before .before .before .before .before .before .before .before .before .before .before .before .before .before .before .before .before .pre .0, c .before .before .before .before .before .before .before .before .before .before .before .before .before .before .before .before .before .if2 .left), seeks-without _ _ _ _ _ _ (c .before .before .before .before .before .before .before .before .before .before .before .before .before .before .before .before .before .before .before .if1 .left) (c .before .before .before .before .before .before .before .before .before .before .before .before .before .before .before .before .before .if2 .left) (c .before .before .before .before .before .before .before .before .before .before .before .before .before .before .before .before .before .before .before .before .before .before .pre .1) _ _ (c .before .before .before .before .before .before .before .before .before .before .before .before .before .before .choose .ensures) _ _ _ (c .before .before .before .before .before .before .before .find .ensures) (c .before .before .if3 .left))
+    let start = c .before .before .before .before .before .before .before .before .before .before .before .before .before .before .before .before .before .before .before .before .before .before in
+    let at-if1 = c .before .before .before .before .before .before .before .before .before .before .before .before .before .before .before .before .before .before .before .if1 in
+    let at-if2 = c .before .before .before .before .before .before .before .before .before .before .before .before .before .before .before .before .before .if2 in
+    let at-choose = c .before .before .before .before .before .before .before .before .before .before .before .before .before .before .choose in
+    let at-find = c .before .before .before .before .before .before .before .find in
+    let at-if3 = c .before .before .if3 in
+    (omega (arith, start .pre .0, at-if2 .left), seeks-without _ _ _ _ _ _ (at-if1 .left) (at-if2 .left) (start .pre .1) _ _ (at-choose .ensures) _ _ _ (at-find .ensures) (at-if3 .left))
 
--- src/lib.rt:94:1
 find-same-length-4 : (t : ℕ) → find-lts.Need-same-length-4 (
   accepted-with-reads.Asked,
   accepted-with-reads.Learnt,
@@ -199,9 +214,11 @@ find-same-length-4 : (t : ℕ) → find-lts.Need-same-length-4 (
   find.Post,
 ) (find-at t) find.Post
 find-same-length-4 t c =
-    c .before .before .before .before .find2 .ensures .size ∙ (c .before .before .before .before .before .before .before .before .before .before .before .before .find .ensures .size ∙ c .before .before .before .before .before .before .before .before .before .before .before .before .before .before .before .before .before .before .before .choose .ensures .size)
+    let at-choose = c .before .before .before .before .before .before .before .before .before .before .before .before .before .before .before .before .before .before .before .choose in
+    let at-find = c .before .before .before .before .before .before .before .before .before .before .before .before .find in
+    let at-find2 = c .before .before .before .before .find2 in
+    at-find2 .ensures .size ∙ (at-find .ensures .size ∙ at-choose .ensures .size)
 
--- src/lib.rt:94:1
 find-same-length-5 : (t : ℕ) → find-lts.Need-same-length-5 (
   accepted-with-reads.Asked,
   accepted-with-reads.Learnt,
@@ -211,9 +228,10 @@ find-same-length-5 : (t : ℕ) → find-lts.Need-same-length-5 (
   find.Post,
 ) (find-at t) find.Post
 find-same-length-5 t c =
-    c .before .before .before .before .find2 .ensures .four ∙ sym (c .before .before .before .before .before .before .before .before .before .before .before .before .before .before .before .before .before .before .before .before .before .before .before .before .before .before .before .pre .1 .four)
+    let start = c .before .before .before .before .before .before .before .before .before .before .before .before .before .before .before .before .before .before .before .before .before .before .before .before .before .before .before in
+    let at-find2 = c .before .before .before .before .find2 in
+    at-find2 .ensures .four ∙ sym (start .pre .1 .four)
 
--- src/lib.rt:94:1
 find-returns-4 : (t : ℕ) → find-lts.Need-returns-4 (
   accepted-with-reads.Asked,
   accepted-with-reads.Learnt,
@@ -223,7 +241,14 @@ find-returns-4 : (t : ℕ) → find-lts.Need-returns-4 (
   find.Post,
 ) (find-at t) find.Post
 find-returns-4 t c =
-    passed-over _ _ _ _ _ _ (c .before .before .before .before .before .before .before .before .before .before .before .before .before .before .before .before .before .before .before .before .before .before .before .before .if1 .left) (c .before .before .before .before .before .before .before .before .before .before .before .before .before .before .before .before .before .before .before .before .before .before .if2 .left) (c .before .before .before .before .before .before .before .before .before .before .before .before .before .before .before .before .before .before .before .before .before .before .before .before .before .before .before .pre .1) _ _ (c .before .before .before .before .before .before .before .before .before .before .before .before .before .before .before .before .before .before .before .choose .ensures) _ _ _ (c .before .before .before .before .before .before .before .before .before .before .before .before .find .ensures) (c .before .before .before .before .before .before .before .if3 .left) _ _ _ (c .before .before .before .before .find2 .ensures)
+    let start = c .before .before .before .before .before .before .before .before .before .before .before .before .before .before .before .before .before .before .before .before .before .before .before .before .before .before .before in
+    let at-if1 = c .before .before .before .before .before .before .before .before .before .before .before .before .before .before .before .before .before .before .before .before .before .before .before .before .if1 in
+    let at-if2 = c .before .before .before .before .before .before .before .before .before .before .before .before .before .before .before .before .before .before .before .before .before .before .if2 in
+    let at-choose = c .before .before .before .before .before .before .before .before .before .before .before .before .before .before .before .before .before .before .before .choose in
+    let at-find = c .before .before .before .before .before .before .before .before .before .before .before .before .find in
+    let at-if3 = c .before .before .before .before .before .before .before .if3 in
+    let at-find2 = c .before .before .before .before .find2 in
+    passed-over _ _ _ _ _ _ (at-if1 .left) (at-if2 .left) (start .pre .1) _ _ (at-choose .ensures) _ _ _ (at-find .ensures) (at-if3 .left) _ _ _ (at-find2 .ensures)
 
 pub +find-spec : {M : Type 1} → statement M
 +find-spec = close μ-find λ t. find-lts.spec (
