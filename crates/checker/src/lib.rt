@@ -190,11 +190,7 @@ pub fn check_method(
 }
 
 // Main. What the arrays held before does not matter.
-pub fn check_main(
-    w: &[u8],
-    key: &mut [u64; State::SLOTS],
-    b: &mut [u8; State::BYTES],
-) -> Verdict
+pub fn check_main(w: &[u8], key: &mut [u64; State::SLOTS], b: &mut [u8; State::BYTES]) -> Verdict
     requires { ⌜ Tables (now w) × Wf (now key) (now b) ⌝ }
     ensures { λ r. ⌜ (verdictOf r ≡ checkBlocks (programIn (now (w .entry))) []) × Wf (now (key .exit)) (now (b .exit)) ⌝ }
 {

@@ -4,7 +4,6 @@ use mathlib.Core.Bool.{Bool, true, false, cond, not, _||_}
 use mathlib.Core.List.{List, [], _∷_}
 use mathlib.Core.Option.{Option, none, some}
 use Prim.Native.Nat.{ℕ, zero, suc}
-use native.Mathlib.Omega.{arith}
 use lib.Dec.{eqb, ltb}
 use lib.ListN.{length, getD, drop}
 use borrow.Author.Tests.{eqb-false}
@@ -14,7 +13,7 @@ use Rattle.rules.specs.Syntax.{Formula, Simple, Stmt, Row, Method, Program, noM
 use Rattle.rules.specs.Syntax.{set, assign, compute, new, call, assert, release, openChain, shutChain, simple, return, if, else, join, loop, again, end}
 use Rattle.rules.specs.State.{State, add, empty}
 use Rattle.rules.specs.Reading.{withRequires}
-use Rattle.rules.specs.Rules.{End, Open, Following, rule, callRule, elseRow, joinRow, againRow, endRow, reached, checkRow, checkRows, checkFrom, checkMethod, checkBlocks}
+use Rattle.rules.specs.Rules.{End, Open, Following, rule, callRule, elseRow, joinRow, againRow, reached, checkRow, checkRows, checkFrom, checkMethod, checkBlocks}
 use Rattle.rules.specs.Bounds.{isEnd, called, upToEnd, block, callees}
 use Rattle.rules.specs.Fill.{placesFrom}
 use Rattle.rules.specs.Calls.{isAccepted}

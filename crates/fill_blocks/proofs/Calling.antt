@@ -1,14 +1,14 @@
 -- A block's calls, row by row, and a block that is walked by its rows.
-use mathlib.Core.Path.{_≡_, refl, sym, ap, _∙_, subst}
-use mathlib.Core.Bool.{Bool, true, false, cond, _||_}
-use mathlib.Core.List.{List, [], _∷_}
+use mathlib.Core.Path.{_≡_, refl, sym, ap, _∙_}
+use mathlib.Core.Bool.{true, false, _||_}
+use mathlib.Core.List.{List, []}
 use Prim.Native.Nat.{ℕ, suc, _≤_, _<_}
 use native.Mathlib.Omega.{arith}
 use lib.Dec.{eqb, ltb}
 use lib.ListN.{length}
 use borrow.Author.Tests.{lt-ltb, le-ltb}
 use Rattle.rules.specs.Base.{any}
-use Rattle.rules.specs.Syntax.{Stmt, Method, Program, rowNumbered, methodNumbered}
+use Rattle.rules.specs.Syntax.{Stmt, Method, Program, rowNumbered}
 use Rattle.rules.specs.Rules.{checkMethod, checkBlocks}
 use Rattle.rules.specs.Bounds.{block, callees}
 use Rattle.tables.specs.Decode.{rowCount, methodCount, firstRowAt, mainFirst, methodAt, programIn}
@@ -18,7 +18,7 @@ use Rattle.tables.proofs.Runs.{run-length}
 use Rattle.bound_laws.proofs.Blocks.{block-goes, block-ends, callees-nil, callees-none, callees-some}
 use Rattle.bound_rows.specs.declared.Line.{Line}
 use Rattle.bound_rows.specs.declared.Line.the-variants.{Plain, Call, Loop, End}
-use Rattle.bound_rows.specs.Lines.{lineOf, lineIn, Says}
+use Rattle.bound_rows.specs.Lines.{lineIn, Says}
 use Rattle.bound_rows.proofs.Lines.{says, row-after}
 use Rattle.fill_blocks.specs.Blocks.{blockVerdict, firstRow, isEndLine, isCallLine, callsFrom}
 

@@ -1,11 +1,11 @@
 -- A program is accepted just if the method's own block is, and so are all other blocks, those that call it and those that do not.
 use mathlib.Core.Path.{_≡_, refl, sym, ap, subst, _∙_}
-use mathlib.Core.Bool.{Bool, true, false, cond, not, _&&_, _||_}
+use mathlib.Core.Bool.{Bool, true, false, not, _&&_, _||_}
 use mathlib.Core.List.{List, [], _∷_}
 use mathlib.Core.Logic.{⊎-elim}
 use Prim.Native.Nat.{ℕ, zero, suc, _+_, _-_, _≤_, _<_}
 use native.Mathlib.Omega.{arith}
-use lib.Dec.{T, eqb, ltb}
+use lib.Dec.{T}
 use lib.ListN.{length, getD}
 use borrow.Author.Tests.{lt-ltb, le-ltb, ne-eqb}
 use Rattle.rules.specs.Base.{all}
@@ -15,7 +15,7 @@ use Rattle.rules.specs.Syntax.{Method, Program, noMethod, methodNumbered}
 use Rattle.rules.specs.Rules.{checkMethod, checkBlocks, checkProgram}
 use Rattle.rules.specs.Fill.{placesFrom}
 use Rattle.rules.specs.Calls.{isAccepted}
-use Rattle.rules.proofs.Lists.{T-true, F-false, and-intro, and-both, or-cases, or-left, or-right, decide-eq, decide-test}
+use Rattle.rules.proofs.Lists.{T-true, F-false, and-intro, and-both, or-right, decide-eq}
 use Rattle.fill_blocks.specs.Blocks.{blockVerdict, callsFrom, firstRow, isLookedAt, passes, othersPass}
 
 -- TESTS OF PLACES

@@ -1,25 +1,25 @@
 -- What the tables mean after the requires of one method has changed: the same program with that requires.
-use mathlib.Core.Path.{_≡_, refl, sym, subst, ap, _∙_}
-use mathlib.Core.List.{List, [], _∷_}
-use mathlib.Core.Logic.{_⊎_, inl, inr, ⊎-elim}
+use mathlib.Core.Path.{_≡_, refl, sym, subst, _∙_}
+use mathlib.Core.List.{List, []}
+use mathlib.Core.Logic.{inl, inr, ⊎-elim}
 use Prim.Native.Nat.{ℕ, zero, suc, _+_, _≤_, _<_}
 use native.Mathlib.Omega.{arith}
 use native.Mathlib.Nat.{zero-add}
 use lib.ListN.{length}
-use Rattle.rules.specs.Limits.{most-filled, most-statements}
-use Rattle.rules.specs.Syntax.{Formula, Method, Program}
+use Rattle.rules.specs.Limits.{most-statements}
+use Rattle.rules.specs.Syntax.{Formula, Method}
 use Rattle.rules.specs.Reading.{withRequires}
 use Rattle.rules.proofs.Lists.{decide-eq}
 use Rattle.filling.specs.Sets.{methodsWith, programWith}
-use Rattle.tables.specs.Layout.{most-atom-rows, rows-at, methods-at, classes-at, places-at, atoms-at, names-at}
-use Rattle.tables.specs.Decode.{run, byteAt, halfAt, atomPlace, rowPlace, kindAt, targetAt, rowAt, allRows, rowCount, atomCount, classCount, methodCount, mainFirst, requiresFirstAt, requiresCountAt, ensuresFirstAt, ensuresCountAt, requiresAt, ensuresAt, methodAt, methodsFrom, methodPlace, firstRowAt, classPlace, placesPlace, classAt, classesFrom, programIn}
+use Rattle.tables.specs.Layout.{most-atom-rows, methods-at, classes-at, places-at, atoms-at}
+use Rattle.tables.specs.Decode.{run, atomPlace, rowPlace, kindAt, targetAt, rowAt, allRows, rowCount, atomCount, classCount, methodCount, mainFirst, requiresFirstAt, requiresCountAt, ensuresFirstAt, ensuresCountAt, requiresAt, methodAt, methodsFrom, methodPlace, firstRowAt, classPlace, placesPlace, classAt, classesFrom, programIn}
 use Rattle.tables.specs.Tables.{AtomFitsAt, AtomsFit, RowFits, HasTarget, TargetFits, FormulasFit, MethodFits, Tables, BlockFits, declaredIn}
 use Rattle.tables.specs.Stores.{Kept}
 use Rattle.tables.proofs.Bytes.{half-kept}
 use Rattle.tables.proofs.Runs.{run-same, less-or-not}
 use Rattle.tables.proofs.Kept.{RowsKept, all-rows, one-atom, atom-fits-kept, row-same, operands-fit-kept, after-requires, first-row-kept, ensures-fit-kept, ensures-kept, formulas-fit-kept, method-same, class-same, class-fits-kept}
 use Rattle.write_rows.proofs.Kept.{atoms-more, operands-more}
-use Rattle.fill_rows.specs.Rewrites.{Spared, SameBut}
+use Rattle.fill_rows.specs.Rewrites.{Spared}
 
 -- the bytes that stay, and what holds of those that do not
 pub record Rewritten (w : List ℕ) (m n : ℕ) (w′ : List ℕ) : Type 0 where

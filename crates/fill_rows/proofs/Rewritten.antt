@@ -1,24 +1,23 @@
 -- The two ways in which the requires of a method is written anew: one of its atoms, and which atoms they are.
-use mathlib.Core.Path.{_≡_, refl, sym, ap, _∙_}
-use mathlib.Core.List.{List, [], _∷_, _++_}
+use mathlib.Core.Path.{_≡_, refl, ap, _∙_}
+use mathlib.Core.List.{List, [], _∷_}
 use mathlib.Core.Logic.{_⊎_, inl, inr, ⊎-elim}
 use Prim.Native.Nat.{ℕ, zero, suc, _+_, _%_, _/_, _≤_, _<_}
 use native.Mathlib.Omega.{arith}
 use lib.ListN.{length}
-use Rattle.rules.specs.Limits.{most-filled, most-methods, most-atoms, work-bytes}
+use Rattle.rules.specs.Limits.{most-filled, most-methods}
 use Rattle.rules.specs.Syntax.{Formula, Method, own, acc}
 use Rattle.rules.specs.Reading.{withRequires}
-use Rattle.rules.proofs.Lists.{decide-eq}
 use Rattle.filling.specs.Sets.{methodsWith, programWith}
 use Rattle.tables.specs.declared.Expr as Tables
 use Rattle.tables.specs.Numbers.{acc-atom}
-use Rattle.tables.specs.Layout.{most-atom-rows, most-names, frame-variables, methods-at, atoms-at, names-at}
-use Rattle.tables.specs.Decode.{byteAt, halfAt, atomPlace, methodPlace, atomAt, atomsFrom, atomCount, methodCount, requiresFirstAt, requiresCountAt, requiresAt, programIn, isPermission, permitOf}
-use Rattle.tables.specs.Tables.{SideFits, AtomFitsAt, AtomsFit}
+use Rattle.tables.specs.Layout.{most-names, frame-variables, methods-at, atoms-at, names-at}
+use Rattle.tables.specs.Decode.{atomPlace, methodPlace, atomAt, atomsFrom, atomCount, requiresFirstAt, requiresCountAt, requiresAt, programIn, isPermission, permitOf}
+use Rattle.tables.specs.Tables.{SideFits, AtomFitsAt}
 use Rattle.tables.specs.Stores.{meaning, Kept, putHalf}
 use Rattle.tables.proofs.Bytes.{half-kept, half-put, put-half-byte, put-half-length, kept-trans}
 use Rattle.tables.proofs.Runs.{three-ways}
-use Rattle.tables.proofs.Kept.{atoms-kept, one-atom, atom-fits-kept}
+use Rattle.tables.proofs.Kept.{atoms-kept, atom-fits-kept}
 use Rattle.write_rows.specs.Puts.{tagOf, putAtom, putRequires}
 use Rattle.write_rows.specs.Holds.{AtomOk, accessOf, atomOf}
 use Rattle.write_rows.proofs.Atoms.{atom-read, atom-kept, atom-length, atom-fits}

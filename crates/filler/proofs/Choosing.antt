@@ -1,27 +1,26 @@
 -- One place more: which atom stands there, and the set with it.
-use mathlib.Core.Path.{_≡_, refl, sym, ap, subst, _∙_}
+use mathlib.Core.Path.{_≡_, refl, sym, ap, _∙_}
 use mathlib.Core.Bool.{Bool, true, false}
 use mathlib.Core.List.{List, [], _∷_, _++_}
 use mathlib.Core.Logic.{⊎-elim}
 use Prim.Native.Nat.{ℕ, zero, suc, pred, _+_, _-_, _≤_, _<_}
 use native.Mathlib.Omega.{arith}
 use native.Mathlib.Nat.{zero-add}
-use native.Mathlib.Numerals.{add-one}
 use lib.Dec.{ltb}
 use borrow.Author.Tests.{ltb-true, ltb-false}
 use lib.ListN.{length, getD, set, length-set}
 use lib.Seq.{getD-set-same, getD-set-other}
 use Rattle.rules.specs.Limits.{most-fields, most-filled, most-classes, places-bytes}
-use Rattle.rules.specs.Syntax.{Atom, Formula, Field, own, acc, this-variable, parameter}
+use Rattle.rules.specs.Syntax.{Field, own, acc, this-variable, parameter}
 use Rattle.rules.specs.Reading as Reading
 use Rattle.rules.proofs.Lists.{decide-eq}
 use Rattle.filling.specs.Sets.{fieldsOf, accessesIn, noAccess, formulaOf}
-use Rattle.tables.specs.Layout.{most-names, frame-variables, atoms-at}
-use Rattle.tables.specs.Decode.{run, byteAt, atomPlace, atomAt, atomsFrom, classCount, classAt, fieldAt, fieldCountAt, fieldNameAt, programIn}
+use Rattle.tables.specs.Layout.{most-names, atoms-at}
+use Rattle.tables.specs.Decode.{byteAt, atomPlace, atomAt, classCount, classAt, fieldAt, fieldCountAt, fieldNameAt, programIn}
 use Rattle.tables.specs.Tables.{Tables}
 use Rattle.tables.specs.Stores.{Kept}
 use Rattle.tables.proofs.Rows.{class-get, class-length}
-use Rattle.tables.proofs.Runs.{run-more, run-same, run-get, run-past, run-length}
+use Rattle.tables.proofs.Runs.{run-more, run-same, run-get, run-past}
 use Rattle.fill_rows.specs.Rewrites.{SameBut}
 use Rattle.fill_rows.proofs.Rewritten.{putAcc, acc-read, acc-fits, before-kept, acc-spared, acc-same, acc-size}
 use Rattle.filler.specs.declared.Sought.{Sought}
@@ -74,9 +73,10 @@ left-get (a ∷ l) m zero d h = refl
 left-get (a ∷ l) m (suc i) d h = left-get l m i d (omega arith)
 
 right-get : {A : Type 0} (l m : List A) (i : ℕ) (d : A) → length l ≤ i → getD (l ++ m) i d ≡ getD m (i - length l) d
-right-get [] m i d h = refl
+right-get [] m i d h = ap (λ k. getD m k d) (let z : i ≡ i - 0 = omega arith in z)
 right-get (a ∷ l) m zero d h = absurd (omega arith)
-right-get (a ∷ l) m (suc i) d h = right-get l m i d (omega arith)
+right-get (a ∷ l) m (suc i) d h =
+    right-get l m i d (omega arith) ∙ ap (λ k. getD m k d) (let z : i - length l ≡ suc i - suc (length l) = omega arith in z)
 
 pub fields-length : (x : ℕ) (fs : List Field) → length (fieldsOf x fs) ≡ length fs
 unfolding fieldsOf
@@ -146,7 +146,7 @@ formula-more αs [] p = refl
 formula-more αs (q ∷ ps) p = ap (λ r. own acc (getD αs (pred q) noAccess .variable) (getD αs (pred q) noAccess .field) ∷ r) (formula-more αs ps p)
 
 module _ (w : List ℕ) (s : Sought) (b : List ℕ) (i p : ℕ) (r : Ready w s) (few : i < most-filled) (four : length b ≡ places-bytes) (a : Access) (at : AccessIs w s p a) where
-  v : List ℕ
+  abbrev pub v : List ℕ
   v = putAcc w (s .first + i) (a .variable) (a .field)
 
   low : s .first ≤ s .first + i
@@ -156,18 +156,15 @@ module _ (w : List ℕ) (s : Sought) (b : List ℕ) (i p : ℕ) (r : Ready w s) 
   high = omega arith
 
   same : SameBut (s .method) w v
-  unfolding v
   same = acc-same w (s .method) (s .first) (r .spared) (s .first + i) (a .variable) (a .field) low high (at .few) (at .names)
 
   kept : Kept atoms-at (atomPlace (s .first + i)) w v
-  unfolding v
   kept = before-kept w (s .method) (s .first) (r .spared) (s .first + i) (a .variable) (a .field) low high (at .few) (at .names)
 
   place-same : (j : ℕ) → j < i → byteAt (set b i p) j ≡ byteAt b j
   place-same j l = getD-set-other b i j p 0 (λ e. omega arith)
 
   more : HasSet w s b i → HasSet v s (set b i p) (suc i)
-  unfolding v
   more h =
       record {
         there = λ c l k.
@@ -189,7 +186,6 @@ module _ (w : List ℕ) (s : Sought) (b : List ℕ) (i p : ℕ) (r : Ready w s) 
           ∙ (λ j. run-same (byteAt b) (byteAt (set b i p)) 0 i (λ k _ l. place-same k (omega arith)) j ++ ((ap (byteAt (set b i p)) (zero-add i) ∙ getD-set-same b i p 0 (omega arith)) j ∷ []))
 
   pub chosen : Chosen w s b i p v (set b i p)
-  unfolding v
   chosen =
       record {
         ready = ready-same w v s same r (acc-spared w (s .method) (s .first) (r .spared) (s .first + i) (a .variable) (a .field) low high (at .few) (at .names));

@@ -2,26 +2,24 @@
 use mathlib.Core.Path.{_≡_, refl, sym, ap, _∙_}
 use mathlib.Core.Bool.{Bool, true, false, cond}
 use mathlib.Core.List.{List, [], _∷_, _++_, map}
-use mathlib.Core.Option.{Option, none, some}
+use mathlib.Core.Option.{none, some}
 use Prim.Native.Nat.{ℕ, zero, suc, _+_, _-_, _≤_, _<_}
 use native.Mathlib.Omega.{arith}
 use native.Mathlib.Nat.{zero-add}
 use native.Mathlib.Numerals.{add-one}
-use lib.ListN.{length}
 use Rattle.rules.specs.Base.{first}
-use Rattle.rules.specs.Limits.{most-filled, places-bytes}
 use Rattle.rules.specs.Fill.{placesFrom, choose}
 use Rattle.rules.specs.Rules.{checkProgram}
 use Rattle.rules.specs.Calls.{isAccepted}
 use Rattle.filling.specs.Sets.{formulaOf, programWith, isAcceptedWith}
-use Rattle.tables.specs.Layout.{atoms-at, names-at}
-use Rattle.tables.specs.Decode.{run, byteAt, atomPlace, atomsFrom, programIn}
+use Rattle.tables.specs.Layout.{atoms-at}
+use Rattle.tables.specs.Decode.{run, byteAt, atomPlace, programIn}
 use Rattle.tables.specs.Stores.{Kept}
 use Rattle.tables.proofs.Runs.{run-more, run-same}
 use Rattle.fill_rows.specs.Rewrites.{SameBut}
 use Rattle.fill_rows.proofs.Rewritten.{set-same, same-trans}
 use Rattle.filler.specs.declared.Sought.{Sought}
-use Rattle.filler.specs.Search.{accessesOf, Ready, placesIn, HasSet, Chosen, Tried, passesWith, Seeking, Finds}
+use Rattle.filler.specs.Search.{accessesOf, placesIn, HasSet, Chosen, Tried, passesWith, Seeking, Finds}
 use Rattle.filler.proofs.Firsts.{first-left, first-right, first-map-some, first-map-none, first-same}
 use Rattle.filler.proofs.Keeping.{accesses-same, ready-same, passes-same, there-kept, formula-kept}
 

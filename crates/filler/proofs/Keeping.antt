@@ -1,25 +1,23 @@
 -- What stays while requires of the method change: the atoms to choose from, the blocks that do not call it, and each set's test.
 use mathlib.Core.Path.{_≡_, refl, sym, ap, _∙_}
 use mathlib.Core.Bool.{Bool, true, false, _&&_}
-use mathlib.Core.List.{List, [], _∷_, _++_}
+use mathlib.Core.List.{List, [], _++_}
 use Prim.Native.Nat.{ℕ, _+_, _≤_, _<_}
 use native.Mathlib.Omega.{arith}
 use lib.ListN.{length, getD}
-use Rattle.rules.specs.Limits.{most-filled}
-use Rattle.rules.specs.Syntax.{Formula, Field, Program}
-use Rattle.rules.specs.Reading as Reading
+use Rattle.rules.specs.Syntax.{Program}
 use Rattle.rules.specs.Rules.{checkProgram}
 use Rattle.rules.specs.Calls.{isAccepted}
 use Rattle.filling.specs.Sets.{accessesIn, formulaOf, programWith, isAcceptedWith}
-use Rattle.tables.specs.Layout.{atoms-at, names-at}
-use Rattle.tables.specs.Decode.{atomPlace, atomsFrom, methodCount, programIn}
+use Rattle.tables.specs.Layout.{atoms-at}
+use Rattle.tables.specs.Decode.{atomPlace, atomsFrom, programIn}
 use Rattle.tables.specs.Stores.{Kept}
 use Rattle.tables.proofs.Kept.{one-atom, atom-fits-kept, atoms-kept}
 use Rattle.fill_rows.specs.Rewrites.{Spared, AtomsThere, SameBut, SetPut}
 use Rattle.fill_rows.proofs.Rewritten.{set-same}
 use Rattle.fill_blocks.specs.Blocks.{blockVerdict, othersPass}
 use Rattle.fill_blocks.proofs.Calling.{methods-are}
-use Rattle.fill_blocks.proofs.Apart.{others-apart, count-same}
+use Rattle.fill_blocks.proofs.Apart.{others-apart}
 use Rattle.fill_blocks.proofs.Passing.{accepted-by-parts}
 use Rattle.filler.specs.declared.Sought.{Sought}
 use Rattle.filler.specs.Search.{accessesOf, Ready, Tried, passesWith}
@@ -75,7 +73,7 @@ module _ (w : List ℕ) (s : Sought) (k : ℕ) (r : Ready w s) (w′ : List ℕ)
       ap (λ P. isAccepted (checkProgram P)) (sym e)
       ∙ (accepted-by-parts (programIn w′) (s .method) l
       ∙ (ap (λ b. isAccepted (blockVerdict (programIn w′) (s .method)) && (othersPass (programIn w′) (s .method) true && b)) apart
-      ∙ and-true _ _))
+      ∙ and-true (isAccepted (blockVerdict (programIn w′) (s .method))) (othersPass (programIn w′) (s .method) true)))
 
   -- the method's own block is accepted, and then the others decide
   pub own-accepted : (a b : Bool) → a ≡ true → a ≡ isAccepted (blockVerdict (programIn w′) (s .method)) → b ≡ othersPass (programIn w′) (s .method) true → Tried w s k b w′

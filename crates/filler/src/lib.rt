@@ -91,14 +91,7 @@ fn accepted_with(work: &mut [u8], s: Sought, k: usize) -> bool
 
 // Is there a set with those chosen so far and `left` places more, from place p on, with which the text is accepted? The first is left in
 // `places`.
-fn find(
-    work: &mut [u8],
-    s: Sought,
-    places: &mut [u8],
-    left: usize,
-    chosen: usize,
-    p: usize,
-) -> bool
+fn find(work: &mut [u8], s: Sought, places: &mut [u8], left: usize, chosen: usize, p: usize) -> bool
     requires { ⌜ Seeking (now work) s (now places) left chosen p ⌝ }
     ensures { λ r. ⌜ Finds (now (work .entry)) s (now (places .entry)) left chosen p r (now (work .exit)) (now (places .exit)) ⌝ }
 {

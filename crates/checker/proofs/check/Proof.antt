@@ -1,12 +1,11 @@
 use Rattle.check_state.specs.States.{Wf}
-use Prim.Native.Nat.{ℕ, _-_, _≤_}
+use Prim.Native.Nat.{_-_, _≤_}
 use Rattle.checker.proofs.Blocks.{methods-all, method-accepted, method-stops, main-last}
 use Rattle.rules.specs.Rules.{checkBlocks, checkProgram}
 use Rattle.tables.specs.Decode.{methodsFrom, programIn}
 use borrow.Author.Needs.{needs}
-use mathlib.Core.Path.{_≡_, sym, _∙_, subst, refl}
+use mathlib.Core.Path.{_≡_, sym, _∙_, refl}
 use native.Mathlib.Omega.{arith}
-use Rattle.checker.specs.Checked.{Nests}
 use Rattle.checker.proofs.check.Statement.{statement}
 use Rattle.checker.proofs.check.Tie as tie
 

@@ -1,43 +1,34 @@
+-- `fill_blocks::is_end` meets its contract. Assumes nothing.
 use mathlib.Core.Path.{sym}
 use Rattle.fill_blocks.specs.Blocks.{isEndLine}
 use borrow.Author.Needs.{needs}
 use Rattle.fill_blocks.proofs.is_end.Statement.{statement}
 use Rattle.fill_blocks.proofs.is_end.Tie as tie
-use Rattle.fill_blocks.proofs.is_end.Reads as reads
-use Rattle.fill_blocks.proofs.is_end.Lts as lts
 
--- src/lib.rt:67:22
 enum-told : tie.Need-enum-told
 enum-told c = search needs
 
--- src/lib.rt:68:24
 enum-told-2 : tie.Need-enum-told-2
 enum-told-2 c = search needs
 
--- src/lib.rt:69:26
 enum-told-3 : tie.Need-enum-told-3
 enum-told-3 c = search needs
 
--- src/lib.rt:70:23
 enum-told-4 : tie.Need-enum-told-4
 enum-told-4 c = search needs
 
--- src/lib.rt:63:1
 returns : tie.Need-returns
 unfolding isEndLine
 returns c = sym (rw (c .enum-told .given .1))
 
--- src/lib.rt:63:1
 returns-2 : tie.Need-returns-2
 unfolding isEndLine
 returns-2 c = sym (rw (c .enum-told2 .given .1))
 
--- src/lib.rt:63:1
 returns-3 : tie.Need-returns-3
 unfolding isEndLine
 returns-3 c = sym (rw (c .enum-told3 .given .1))
 
--- src/lib.rt:63:1
 returns-4 : tie.Need-returns-4
 unfolding isEndLine
 returns-4 c = sym (rw (c .enum-told4 .given .1))

@@ -1,28 +1,21 @@
+-- `fill_blocks::passes` meets its contract. Assumes nothing.
 use mathlib.Core.Path.{refl, sym, _∙_}
 use Rattle.fill_blocks.specs.Blocks.{passes}
 use borrow.Author.Needs.{needs}
 use Rattle.fill_blocks.proofs.passes.Statement.{statement}
 use Rattle.fill_blocks.proofs.passes.Tie as tie
-use Rattle.fill_blocks.proofs.passes.Reads as reads
-use Rattle.fill_blocks.proofs.passes.Lts as lts
-use Rattle.fill_blocks.proofs.accepted.Reads as accepted-reads
-use Rattle.fill_blocks.proofs.is_looked_at.Reads as is-looked-at-reads
 
--- src/lib.rt:121:8
 is-looked-at-requires : tie.Need-is-looked-at-requires
 is-looked-at-requires c κs = search needs
 
--- src/lib.rt:122:9
 accepted-requires : tie.Need-accepted-requires
 accepted-requires c κs = search needs
 
--- src/lib.rt:122:9
 returns : tie.Need-returns
 unfolding passes
 returns c =
     sym (rw (sym (c .before .before .is-looked-at .ensures) ∙ c .before .if1 .taken) (sym (c .accepted .ensures)))
 
--- src/lib.rt:117:1
 returns-2 : tie.Need-returns-2
 unfolding passes
 returns-2 c =
