@@ -60,7 +60,8 @@ loop-again c =
     let at-is-end = c .before .before .before .before .is-end in
     let at-if1 = c .before .before .before .if1 in
     let at-line-at2 = c .before .before .line-at2 in
-    let d = ap isEndLine (sym (at-line-at .ensures)) ∙ sym (at-is-end .ensures) ∙ not-true _ (at-if1 .taken) in (subst (λ (k : ℕ). k < rowCount (start .args .work .now)) (sym (add-one _)) (row-follows _ 0 _ (start .pre .0) (at-loop .inv .0) d), at-loop .inv .1 ∙ goes-on _ _ _ d (ap (isCallLine _) (sym (at-line-at2 .ensures)) ∙ sym (c .before .is-call .ensures) ∙ c .if2 .left) ∙ ap (callsFrom _ _) (sym (add-one _)))
+    let d = ap isEndLine (sym (at-line-at .ensures)) ∙ sym (at-is-end .ensures) ∙ not-true _ (at-if1 .taken) in
+    (subst (λ (k : ℕ). k < rowCount (start .args .work .now)) (sym (add-one _)) (row-follows _ 0 _ (start .pre .0) (at-loop .inv .0) d), at-loop .inv .1 ∙ goes-on _ _ _ d (ap (isCallLine _) (sym (at-line-at2 .ensures)) ∙ sym (c .before .is-call .ensures) ∙ c .if2 .left) ∙ ap (callsFrom _ _) (sym (add-one _)))
 
 returns-2 : tie.Need-returns-2 Inv-loop μ-loop
 returns-2 c =
