@@ -10,9 +10,8 @@ use compare::{
     compare_seeds, lean_of, run_of, trial_of, Call, Comparer, Counts, Runs, Texts, BOUND, CHECK,
     FILLED,
 };
-use model::limits::PLACE_BYTES;
 use nuyardi::calls::raw;
-use nuyardi::limits::{BOUNDS_BYTES, RESULTS_BYTES, TEXT_BYTES, WORK_BYTES};
+use nuyardi::limits::{BOUNDS_BYTES, PLACES_BYTES, RESULTS_BYTES, TEXT_BYTES, WORK_BYTES};
 use nuyardi::Returned;
 use std::ops::RangeInclusive;
 use std::path::Path;
@@ -30,7 +29,7 @@ fn call_of(case: &Case) -> Option<Call> {
         }),
         ("fill", None) => Some(Call::Fill {
             work,
-            places: length(PLACE_BYTES),
+            places: length(PLACES_BYTES),
         }),
         (name @ ("run" | "trial" | "lean"), Some(steps)) => Some(Call::Run {
             by: match name {
@@ -233,32 +232,40 @@ fn a_null_text() {
         assert_eq!(Returned::of(ran).refusal(), unfinished);
         assert!(work.iter().chain(&results).all(|&byte| byte == 0));
     }
-    work.fill(0xa5);
-    let mut bounds = [0x5a; BOUNDS_BYTES];
-    // SAFETY: as above.
-    let bounded = unsafe {
-        raw::station_bound(
-            std::ptr::null(),
-            0,
-            work.as_mut_ptr(),
-            WORK_BYTES,
-            bounds.as_mut_ptr(),
-            BOUNDS_BYTES,
-        )
-    };
-    assert_eq!(Returned::of(bounded).refusal(), unfinished);
-    assert!(work.iter().chain(&bounds).all(|&byte| byte == 0));
+    let tells: [(raw::Tells, usize); 2] = [
+        (raw::station_bound, BOUNDS_BYTES),
+        (raw::station_fill, PLACES_BYTES),
+    ];
+    for (call, bytes) in tells {
+        work.fill(0xa5);
+        let mut area = vec![0x5a; bytes];
+        // SAFETY: as above.
+        let told = unsafe {
+            call(
+                std::ptr::null(),
+                0,
+                work.as_mut_ptr(),
+                WORK_BYTES,
+                area.as_mut_ptr(),
+                bytes,
+            )
+        };
+        assert_eq!(Returned::of(told).refusal(), unfinished);
+        assert!(work.iter().chain(&area).all(|&byte| byte == 0));
+    }
 }
 
 /// Two threads with areas of their own get the answers that one gets.
 #[test]
 fn two_threads_at_once() {
-    let texts: Vec<Vec<u8>> = (0..200).map(generator::text).collect();
+    let texts = (0..200).map(generator::text);
+    let texts: Vec<Vec<u8>> = texts.chain((0..100).map(generator::starred)).collect();
     let answers = || -> Vec<_> {
         let mut station = nuyardi::Station::new();
         let answer = |text| {
             let (ran, tried) = (station.run(text, 500), station.trial(text, 500));
-            (ran, tried, station.lean(text, 500), station.bound(text))
+            let told = (station.bound(text), station.fill(text));
+            (ran, tried, station.lean(text, 500), told)
         };
         texts
             .iter()

@@ -3,9 +3,8 @@
 #![allow(dead_code)]
 
 use generator::{self as gen, mutate, rng::Rng};
-use model::limits::PLACE_BYTES;
 use model::Judged;
-use nuyardi::limits::{BOUNDS_BYTES, RESULTS_BYTES, WORK_BYTES};
+use nuyardi::limits::{BOUNDS_BYTES, PLACES_BYTES, RESULTS_BYTES, WORK_BYTES};
 use nuyardi::{calls, Returned};
 use std::fmt;
 
@@ -13,12 +12,6 @@ use std::fmt;
 pub fn number_or(usual: u64, word: Option<String>) -> u64 {
     word.and_then(|word| word.parse().ok()).unwrap_or(usual)
 }
-
-/// A call that fills in a text (W11).
-type Fill = fn(&[u8], &mut [u8], &mut [u8]) -> Returned;
-
-/// The library's; as long as it has none the model's answers stand alone.
-pub const FILL: Option<Fill> = None;
 
 /// The bytes that stand before and after a lent area and must stay.
 const CANARY: usize = 64;
@@ -84,7 +77,7 @@ pub const BOUND: Call = Call::Bound {
 
 pub const FILLED: Call = Call::Fill {
     work: WORK_BYTES,
-    places: PLACE_BYTES,
+    places: PLACES_BYTES,
 };
 
 pub fn run_of(steps: u32) -> Call {
@@ -232,11 +225,11 @@ impl Comparer {
                 let own_places = own_results.set(garbage, places).area();
                 let places = results.set(garbage, places).area();
                 let own_work = own_work.set(garbage, len).area();
-                let model = model::fill_call(text, work.set(garbage, len).area(), places);
-                let Some(fill) = FILL else {
-                    return Ok(model);
-                };
-                (fill(&self.text, own_work, own_places).word(), model)
+                let work = work.set(garbage, len).area();
+                (
+                    calls::fill(&self.text, own_work, own_places).word(),
+                    model::fill_call(text, work, places),
+                )
             }
         };
         let what = if library != model {
@@ -307,7 +300,7 @@ impl Comparer {
         let work = other(rng, WORK_BYTES);
         let results = other(rng, RESULTS_BYTES);
         let bounds = other(rng, BOUNDS_BYTES);
-        let places = other(rng, PLACE_BYTES);
+        let places = other(rng, PLACES_BYTES);
         let steps = gen::steps(rng);
         self.call_judged(text, judged, Call::Check { work })?;
         self.call_judged(text, judged, Call::Bound { work, bounds })?;
