@@ -1,4 +1,4 @@
-/* Catalogue scripts: check, run, trial, lean and bound, the functions of
+/* Catalogue scripts: check, run, trial, lean, bound and fill, the functions of
  * libnuyardi.a and libnuyardi.so.
  *
  * Each returns number * 65536 + line (STATION_NUMBER, STATION_LINE). For every
@@ -38,6 +38,7 @@ extern "C" {
 #define STATION_WORK_BYTES 65536
 #define STATION_RESULTS_BYTES 52
 #define STATION_BOUNDS_BYTES 8
+#define STATION_PLACES_BYTES 4
 /* The longest text, in bytes. */
 #define STATION_TEXT_BYTES 32768
 /* Values in the results area: main's variables in the order of their lines. */
@@ -49,6 +50,8 @@ extern "C" {
 #define STATION_FRAMES 64
 /* The highest bound that is given. */
 #define STATION_BOUND 1000000
+/* The most permissions that a `requires *` is filled in with. */
+#define STATION_FILLED 4
 /* More stack than any call takes, in bytes. */
 #define STATION_STACK_BYTES 65536
 
@@ -74,6 +77,8 @@ enum station_number {
     STATION_STATE_FULL = 14,        /* checker's state full */
     STATION_UNBOUNDED = 15,         /* `loop`, or `call` that can lead back to its own method */
     STATION_BOUND_PASSED = 16,      /* bound above STATION_BOUND steps */
+    STATION_UNFILLED = 17,          /* no set of at most STATION_FILLED permissions for `requires *` */
+    STATION_STARS = 18,             /* no `requires *`, or a second one */
     STATION_OUT_OF_STEPS = 21,      /* allowed steps taken */
     STATION_HEAP_FULL = 22,         /* more than STATION_OBJECTS objects or STATION_FIELDS fields */
     STATION_FRAMES_FULL = 23,       /* more than STATION_FRAMES frames */
@@ -139,6 +144,30 @@ uint32_t station_lean(const uint8_t *text, size_t text_len,
 uint32_t station_bound(const uint8_t *text, size_t text_len,
                        uint8_t *work, size_t work_len,
                        uint8_t *bounds, size_t bounds_len);
+
+/* The permissions that a `requires` line lacks. One method of the text has
+ * `requires *`, and all else is complete. The places area then holds the first set
+ * of at most STATION_FILLED permissions `acc x f` with which station_check accepts
+ * the text, its length apart: places from 1, rising, a byte each, then zeros. The
+ * places are the fields of the method's class in the order of their lines, x being
+ * `this`, then those of the parameter's class, if it has one, x being the
+ * parameter. Of two sets the one with fewer permissions comes first, then the one
+ * with the earlier place where they first differ; a set may be empty.
+ *
+ *   returned          when                                   places area
+ *   0                 there is such a set                    its places
+ *   1                 an area of wrong length                unchanged
+ *   2 to 9, line      the text is refused so with a bare     all zero
+ *                     `requires` in place of the star
+ *   18, line          the second line `requires *`; 0 where  all zero
+ *                     there is none
+ *   17, line          with no such set the text is accepted; all zero
+ *                     the line of the star
+ *
+ * To every other function `requires *` is number 4. */
+uint32_t station_fill(const uint8_t *text, size_t text_len,
+                      uint8_t *work, size_t work_len,
+                      uint8_t *places, size_t places_len);
 
 #ifdef __cplusplus
 }

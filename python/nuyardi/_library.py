@@ -75,13 +75,14 @@ _AREA = [_BYTES, _LENGTH]
 
 @_once
 def station() -> ctypes.CDLL:
-    """libnuyardi.so: check, run, trial, lean and bound."""
+    """libnuyardi.so: check, run, trial, lean, bound and fill."""
     functions = {
         "station_check": [*_AREA, *_AREA],
         "station_run": [*_AREA, *_AREA, _STEPS, *_AREA],
         "station_trial": [*_AREA, *_AREA, _STEPS, *_AREA],
         "station_lean": [*_AREA, *_AREA, _STEPS, *_AREA],
         "station_bound": [*_AREA, *_AREA, *_AREA],
+        "station_fill": [*_AREA, *_AREA, *_AREA],
     }
     return _loaded("libnuyardi.so", SONAME, "NUYARDI_LIBRARY", functions, ctypes.c_uint32)
 

@@ -3,7 +3,7 @@
 import re
 import struct
 from dataclasses import dataclass
-from typing import Iterator, Optional, Tuple, Union
+from typing import Iterator, List, Optional, Tuple, Union
 
 from ._library import LibraryMismatch
 from .numbers import VALUES, Number
@@ -86,6 +86,22 @@ class Bounded(_Answer):
         return self.number == Number.DONE
 
 
+@dataclass(frozen=True)
+class Filled(_Answer):
+    """What a line `requires *` stands for: the places of the permissions, the line that takes its place, and the text with it.
+
+    Line and text are None where there is no set, and then the number says why.
+    """
+
+    places: Tuple[int, ...]
+    requires: Optional[str]
+    text: Optional[bytes]
+
+    @property
+    def filled(self) -> bool:
+        return self.number == Number.DONE
+
+
 def _parted(returned: int) -> Tuple[Number, int]:
     number, line = divmod(returned, 65536)
     try:
@@ -120,6 +136,37 @@ def ran(returned: int, text: bytes, results: bytes) -> Ran:
     declared = () if number.refuses else _declared(text)
     variables = tuple(Variable(name, kind, _held(kind, value)) for (kind, name), value in zip(declared, values))
     return Ran(number, line, steps, tuple(values), variables)
+
+
+#: The line that is filled in.
+_STAR = "requires\t*"
+
+
+def _permissions(lines: List[str], variable: str, kind: str) -> Iterator[str]:
+    """A permission to each field of a class, which follow its line; none for an int."""
+    if kind != "int":
+        for line in lines[lines.index(f"class\t{kind}") + 1 :]:
+            if not line.startswith("field\t"):
+                return
+            yield f"acc\t{variable}\t" + line.split("\t")[2]
+
+
+def _filled_in(text: bytes, places: Tuple[int, ...]) -> Tuple[str, bytes]:
+    """The line in the star's place, and the text with it."""
+    lines = text.decode("ascii").split("\n")
+    star = lines.index(_STAR)
+    *_, own = (line.split("\t")[1] for line in lines[:star] if line.startswith("class\t"))
+    _, _, _, kind, parameter = lines[star - 1].split("\t")
+    choice = [*_permissions(lines, "this", own), *_permissions(lines, parameter, kind)]
+    lines[star] = "\t".join(["requires", *(choice[place - 1] for place in places)])
+    return lines[star], "\n".join(lines).encode("ascii")
+
+
+def filled(returned: int, text: bytes, places: bytes) -> Filled:
+    """What fill returned for a text, and left in the places area."""
+    number, line = _parted(returned)
+    given = tuple(place for place in places if place)
+    return Filled(number, line, given, *(_filled_in(text, given) if number == Number.DONE else (None, None)))
 
 
 def bounded(returned: int, bounds: bytes) -> Bounded:

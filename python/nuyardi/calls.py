@@ -4,14 +4,14 @@ What C can not check is checked here before the call: an area is a writable buff
 memoryview of bytes), and overlaps neither another area nor the text. There are no null pointers: a buffer always has an address. The
 buffers can not be resized or freed during the call. That no other thread writes to them during it is left to the caller.
 
-Most callers want nuyardi.check, nuyardi.run, nuyardi.trial, nuyardi.lean and nuyardi.bound, which need no areas.
+Most callers want nuyardi.check, nuyardi.run, nuyardi.trial, nuyardi.lean, nuyardi.bound and nuyardi.fill, which need no areas.
 """
 
 import ctypes
 from typing import Any, Tuple, Union
 
 from . import _library
-from .numbers import BOUNDS_BYTES, MOST_STEPS, RESULTS_BYTES, WORK_BYTES
+from .numbers import BOUNDS_BYTES, MOST_STEPS, PLACES_BYTES, RESULTS_BYTES, WORK_BYTES
 
 #: A writable buffer of bytes.
 Area = Union[bytearray, memoryview, "ctypes.Array[Any]"]
@@ -109,9 +109,18 @@ def lean(text: Text, work: Area, steps: int, results: Area) -> int:
     return _ran("station_lean", text, work, steps, results)
 
 
+def _told(function: str, text: Text, work: Area, left: _Lent) -> int:
+    said, room = _text(text), _area("work", work, WORK_BYTES)
+    _apart(said, room, left)
+    call = getattr(_library.station(), function)
+    return int(call(*_pair(said), *_pair(room), *_pair(left)))
+
+
 def bound(text: Text, work: Area, bounds: Area) -> int:
     """station_bound. Afterwards work is all zero, and bounds has the steps and the frames, 4 bytes each, low byte first."""
-    said, room = _text(text), _area("work", work, WORK_BYTES)
-    left = _area("bounds", bounds, BOUNDS_BYTES)
-    _apart(said, room, left)
-    return int(_library.station().station_bound(*_pair(said), *_pair(room), *_pair(left)))
+    return _told("station_bound", text, work, _area("bounds", bounds, BOUNDS_BYTES))
+
+
+def fill(text: Text, work: Area, places: Area) -> int:
+    """station_fill. Afterwards work is all zero, and places has the places of the permissions, a byte each, rising, then zeros."""
+    return _told("station_fill", text, work, _area("places", places, PLACES_BYTES))

@@ -5,9 +5,11 @@ import enum
 WORK_BYTES = 65536
 RESULTS_BYTES = 52
 BOUNDS_BYTES = 8
+PLACES_BYTES = 4
 TEXT_BYTES = 32768
 VALUES = 12
 BOUND = 1000000
+FILLED = 4
 #: The most steps that can be allowed: 32 bits.
 MOST_STEPS = 2**32 - 1
 
@@ -32,6 +34,8 @@ class Number(enum.IntEnum):
     STATE_FULL = 14
     UNBOUNDED = 15
     BOUND_PASSED = 16
+    UNFILLED = 17
+    STARS = 18
     OUT_OF_STEPS = 21
     HEAP_FULL = 22
     FRAMES_FULL = 23
@@ -74,6 +78,8 @@ _MEANINGS = {
     Number.STATE_FULL: "checker's state full",
     Number.UNBOUNDED: "`loop`, or `call` that can lead back to its own method",
     Number.BOUND_PASSED: "bound above 1000000 steps",
+    Number.UNFILLED: "no set of at most 4 permissions for `requires *`",
+    Number.STARS: "no `requires *`, or a second one",
     Number.OUT_OF_STEPS: "allowed steps taken",
     Number.HEAP_FULL: "more than 256 objects or 1024 fields",
     Number.FRAMES_FULL: "more than 64 frames",

@@ -1,10 +1,10 @@
-"""check, run, trial, lean and bound, each with areas of its own: calls may run in any number of threads."""
+"""check, run, trial, lean, bound and fill, each with areas of its own: calls may run in any number of threads."""
 
 from typing import Any
 
 from . import answers, calls
-from .answers import Bounded, Checked, Ran
-from .numbers import BOUNDS_BYTES, RESULTS_BYTES, WORK_BYTES
+from .answers import Bounded, Checked, Filled, Ran
+from .numbers import BOUNDS_BYTES, PLACES_BYTES, RESULTS_BYTES, WORK_BYTES
 
 
 def script_bytes(text: Any) -> bytes:
@@ -52,3 +52,10 @@ def bound(text: bytes) -> Bounded:
     bounds = bytearray(BOUNDS_BYTES)
     returned = calls.bound(script_bytes(text), bytearray(WORK_BYTES), bounds)
     return answers.bounded(returned, bounds)
+
+
+def fill(text: bytes) -> Filled:
+    """The first set of at most 4 permissions with which a line `requires *` makes the text accepted, its length apart."""
+    places = bytearray(PLACES_BYTES)
+    returned = calls.fill(script_bytes(text), bytearray(WORK_BYTES), places)
+    return answers.filled(returned, text, places)

@@ -5,7 +5,7 @@ import struct
 import unittest
 
 from nuyardi import calls
-from nuyardi.numbers import BOUNDS_BYTES, RESULTS_BYTES, TEXT_BYTES, WORK_BYTES
+from nuyardi.numbers import BOUNDS_BYTES, PLACES_BYTES, RESULTS_BYTES, TEXT_BYTES, WORK_BYTES
 
 from . import example
 
@@ -19,23 +19,27 @@ def filled(length: int) -> bytearray:
 class Areas(unittest.TestCase):
     def setUp(self):
         self.work, self.results, self.bounds = filled(WORK_BYTES), filled(RESULTS_BYTES), filled(BOUNDS_BYTES)
+        self.places = filled(PLACES_BYTES)
 
-    def every_call(self, text=WORKED, work=None, results=None, bounds=None):
+    def every_call(self, text=WORKED, work=None, results=None, bounds=None, places=None):
         """Each call, with these in place of its usual words."""
         work = self.work if work is None else work
         results = self.results if results is None else results
         bounds = self.bounds if bounds is None else bounds
+        places = self.places if places is None else places
         yield lambda: calls.check(text, work)
         yield lambda: calls.run(text, work, 1000, results)
         yield lambda: calls.trial(text, work, 1000, results)
         yield lambda: calls.lean(text, work, 1000, results)
         yield lambda: calls.bound(text, work, bounds)
+        yield lambda: calls.fill(text, work, places)
 
     def refused(self, error, message, which=slice(None), **words):
         for call in list(self.every_call(**words))[which]:
             with self.assertRaisesRegex(error, message):
                 call()
-        self.assertEqual(set(self.work) | set(self.results) | set(self.bounds), {0xA5}, "an area was changed")
+        areas = [self.work, self.results, self.bounds, self.places]
+        self.assertEqual(set().union(*areas), {0xA5}, "an area was changed")
 
     def test_what_is_left(self):
         self.assertEqual(calls.check(WORKED, self.work), 0)
@@ -46,11 +50,15 @@ class Areas(unittest.TestCase):
             self.assertEqual(struct.unpack("<I12i", results), (8, 1, 7, 7) + (0,) * 9)
         self.assertEqual(calls.bound(WORKED, self.work, self.bounds), 0)
         self.assertEqual(struct.unpack("<II", self.bounds), (9, 2))
+        self.assertEqual(calls.fill(WORKED, self.work, self.places), 18 * 65536)
+        self.assertEqual(self.places, bytes(PLACES_BYTES))
+        self.assertEqual(calls.fill(example("fill.script"), filled(WORK_BYTES), self.places), 0)
+        self.assertEqual(self.places, bytes([1, 2, 6, 0]))
         self.assertEqual(calls.check(b"main\n", self.work), 8 * 65536 + 1)
 
     def test_every_kind_of_buffer(self):
         for text in [WORKED, bytearray(WORKED), memoryview(bytearray(WORKED)), (ctypes.c_ubyte * len(WORKED))(*WORKED)]:
-            for call, returned in zip(self.every_call(text=text), [0, 19, 19, 19, 0]):
+            for call, returned in zip(self.every_call(text=text), [0, 19, 19, 19, 0, 18 * 65536]):
                 self.assertEqual(call(), returned)
         whole = filled(WORK_BYTES + RESULTS_BYTES + len(WORKED))
         view = memoryview(whole)
@@ -67,6 +75,7 @@ class Areas(unittest.TestCase):
             self.refused(ValueError, f"work has {length} bytes, and must have {WORK_BYTES}", work=filled(length))
         self.refused(ValueError, "results has 51 bytes, and must have 52", slice(1, 4), results=filled(51))
         self.refused(ValueError, "bounds has 9 bytes, and must have 8", slice(4, 5), bounds=filled(9))
+        self.refused(ValueError, "places has 3 bytes, and must have 4", slice(5, 6), places=filled(3))
 
     def test_no_buffer(self):
         """Null pointers among them."""
@@ -83,8 +92,9 @@ class Areas(unittest.TestCase):
         shared = memoryview(filled(WORK_BYTES + TEXT_BYTES))
         work = shared[:WORK_BYTES]
         for at in [WORK_BYTES - 1, WORK_BYTES - RESULTS_BYTES, 0]:
-            results, bounds = shared[at : at + RESULTS_BYTES], shared[at : at + BOUNDS_BYTES]
-            self.refused(ValueError, "work and (results|bounds) overlap", slice(1, 5), work=work, results=results, bounds=bounds)
+            lengths = {"results": RESULTS_BYTES, "bounds": BOUNDS_BYTES, "places": PLACES_BYTES}
+            areas = {name: shared[at : at + length] for name, length in lengths.items()}
+            self.refused(ValueError, "work and (results|bounds|places) overlap", slice(1, 6), work=work, **areas)
             self.refused(ValueError, "text and work overlap", text=shared[at : at + 100], work=work)
         self.refused(ValueError, "text and results overlap", slice(1, 4), text=self.results)
         self.refused(ValueError, "work and results overlap", slice(1, 4), results=memoryview(self.work)[:RESULTS_BYTES])

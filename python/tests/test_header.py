@@ -26,7 +26,7 @@ class Header(unittest.TestCase):
 
     def test_functions(self):
         declared = set(re.findall(r"^uint32_t (station_\w+)\(", HEADER, re.MULTILINE))
-        self.assertEqual(len(declared), 5)
+        self.assertEqual(len(declared), 6)
         for name in declared:
             self.assertTrue(getattr(_library.station(), name).argtypes, name)
 

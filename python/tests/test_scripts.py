@@ -1,4 +1,4 @@
-"""check, run, trial, lean and bound on scripts with known answers."""
+"""check, run, trial, lean, bound and fill on scripts with known answers."""
 
 import dataclasses
 import doctest
@@ -66,8 +66,8 @@ class Answers(unittest.TestCase):
     def test_refused_examples(self):
         count = 0
         for name, number, text in numbered("refused"):
-            call = nuyardi.check if number < Number.UNBOUNDED else nuyardi.bound
-            self.assertEqual(call(text).number, number, name)
+            later = {15: nuyardi.bound, 16: nuyardi.bound, 17: nuyardi.fill, 18: nuyardi.fill}
+            self.assertEqual(later.get(number, nuyardi.check)(text).number, number, name)
             count += 1
         self.assertGreater(count, 12)
 
@@ -96,6 +96,21 @@ class Answers(unittest.TestCase):
         self.assertEqual((bound.number, bound.steps, bound.frames), (Number.UNBOUNDED, None, None))
         self.assertTrue(nuyardi.check(FOREVER).accepted)
 
+    def test_filled(self):
+        text = example("fill.script")
+        filled = nuyardi.fill(text)
+        self.assertEqual((filled.number, filled.line, filled.filled, filled.places), (Number.DONE, 0, True, (1, 2, 6)))
+        self.assertEqual(filled.requires, "requires\tacc\tthis\tprev\tacc\tthis\ttag\tacc\told\tseen")
+        self.assertEqual(filled.text, text.replace(b"requires\t*", filled.requires.encode()))
+        self.assertTrue(nuyardi.run(filled.text, 1000).finished)
+        self.assertEqual(nuyardi.check(text).number, Number.FORM)
+        of_int = b"class\tS\nfield\tint\ta\nfield\tint\tb\nmethod\tint\tm\tint\tk\nrequires\t*\nensures\tacc\tthis\tb\nend\nmain\nend\n"
+        self.assertEqual(nuyardi.fill(of_int).requires, "requires\tacc\tthis\tb")
+        for text, number, line in [(WORKED, 18, 0), (example("refused-17.script"), 17, 4), (b"main", 3, 1)]:
+            none = nuyardi.fill(text)
+            self.assertEqual((none.number, none.line, none.filled), (number, line, False))
+            self.assertEqual((none.places, none.requires, none.text), ((), None, None))
+
     def test_null_and_negative(self):
         text = b"class\tS\nfield\tS\tn\nmain\nvar\tS\ts\nvar\tint\ta\nlet\ta\t-5\nend\n"
         ended = nuyardi.run(text, 10)
@@ -107,7 +122,7 @@ class Answers(unittest.TestCase):
         self.assertEqual(nuyardi.check(b"a" * 40000).number, Number.TEXT_TOO_LONG)
 
     def test_answers_are_frozen(self):
-        for answer in [nuyardi.check(WORKED), nuyardi.run(WORKED, 9), nuyardi.bound(WORKED)]:
+        for answer in [nuyardi.check(WORKED), nuyardi.run(WORKED, 9), nuyardi.bound(WORKED), nuyardi.fill(WORKED)]:
             with self.assertRaises(dataclasses.FrozenInstanceError):
                 answer.line = 1
             self.assertEqual(len({answer, answer}), 1)
@@ -123,7 +138,7 @@ class Misuse(unittest.TestCase):
     def test_text_is_bytes(self):
         for text in [WORKED.decode(), bytearray(WORKED), memoryview(WORKED), None, 5]:
             runs = [nuyardi.run, nuyardi.trial, nuyardi.lean]
-            for call in [nuyardi.check, nuyardi.bound, *(lambda text, run=run: run(text, 1) for run in runs)]:
+            for call in [nuyardi.check, nuyardi.bound, nuyardi.fill, *(lambda text, run=run: run(text, 1) for run in runs)]:
                 with self.assertRaisesRegex(TypeError, "text is not bytes"):
                     call(text)
 

@@ -19,6 +19,8 @@ meanings <- c(
   "14" = "checker's state full",
   "15" = "`loop`, or `call` that can lead back to its own method",
   "16" = "bound above 1000000 steps",
+  "17" = "no set of at most 4 permissions for `requires *`",
+  "18" = "no `requires *`, or a second one",
   "21" = "allowed steps taken",
   "22" = "more than 256 objects or 1024 fields",
   "23" = "more than 64 frames",
@@ -52,6 +54,25 @@ variables <- function(bytes, values) {
   data.frame(name = vapply(fields, `[`, "", 3L), type = type, value = value, stringsAsFactors = FALSE)
 }
 
+# A permission to each field of a class, which follow its line; none for an int.
+permissions <- function(lines, variable, class) {
+  after <- lines[seq_along(lines) > match(paste0("class\t", class), lines, nomatch = length(lines))]
+  count <- match(FALSE, startsWith(after, "field\t"), nomatch = length(after) + 1L) - 1L
+  fields <- strsplit(after[seq_len(count)], "\t", fixed = TRUE)
+  sprintf("acc\t%s\t%s", variable, vapply(fields, `[`, "", 3L))
+}
+
+# The line that takes the place of `requires *`, of a text that is filled in.
+requires_line <- function(bytes, places) {
+  lines <- strsplit(rawToChar(bytes), "\n", fixed = TRUE)[[1L]]
+  star <- match("requires\t*", lines)
+  header <- strsplit(lines[star - 1L], "\t", fixed = TRUE)[[1L]]
+  classes <- grep("^class\t", lines[seq_len(star)], value = TRUE)
+  own <- substring(classes[length(classes)], nchar("class\t") + 1L)
+  choice <- c(permissions(lines, "this", own), permissions(lines, header[5L], header[4L]))
+  paste(c("requires", choice[places]), collapse = "\t")
+}
+
 print.station_answer <- function(x, ...) {
   place <- if (x$line > 0) paste0("line ", x$line, ": ") else ""
   cat(place, x$meaning, " (number ", x$number, ")\n", sep = "")
@@ -60,5 +81,6 @@ print.station_answer <- function(x, ...) {
     cat(format(x$steps, big.mark = ","), " steps", most, "\n", sep = "")
   }
   if (!is.null(x$variables) && nrow(x$variables) > 0L) print(x$variables, row.names = FALSE)
+  if (!is.null(x$requires) && !is.na(x$requires)) cat(gsub("\t", " ", x$requires, fixed = TRUE), "\n", sep = "")
   invisible(x)
 }

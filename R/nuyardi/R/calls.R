@@ -48,3 +48,14 @@ station_bound <- function(text) {
   most <- if (bounded) returned[3:4] else c(NA_real_, NA_real_)
   answer(returned, list(bounded = bounded, steps = most[1L], frames = most[2L]))
 }
+
+# The permissions that a line `requires *` stands for.
+station_fill <- function(text) {
+  bytes <- script_bytes(text)
+  returned <- .Call(nuyardi_fill, bytes)
+  filled <- returned[1L] == 0
+  places <- as.integer(returned[-(1:2)])
+  places <- places[places > 0L]
+  line <- if (filled) requires_line(bytes, places) else NA_character_
+  answer(returned, list(filled = filled, places = places, requires = line))
+}

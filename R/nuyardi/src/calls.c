@@ -94,3 +94,16 @@ SEXP nuyardi_bound(SEXP text)
     UNPROTECT(1);
     return found;
 }
+
+/* Number, line, places. */
+SEXP nuyardi_fill(SEXP text)
+{
+    nuyardi_is_text(text);
+    uint8_t *work = area(STATION_WORK_BYTES), *places = area(STATION_PLACES_BYTES);
+    uint32_t returned = station_fill(RAW(text), XLENGTH(text), work, STATION_WORK_BYTES, places, STATION_PLACES_BYTES);
+    SEXP found = PROTECT(answer(returned, STATION_PLACES_BYTES));
+    for (int at = 0; at < STATION_PLACES_BYTES; at++)
+        REAL(found)[2 + at] = places[at];
+    UNPROTECT(1);
+    return found;
+}

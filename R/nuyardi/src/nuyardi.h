@@ -19,6 +19,7 @@ SEXP nuyardi_run(SEXP text, SEXP steps);
 SEXP nuyardi_trial(SEXP text, SEXP steps);
 SEXP nuyardi_lean(SEXP text, SEXP steps);
 SEXP nuyardi_bound(SEXP text);
+SEXP nuyardi_fill(SEXP text);
 SEXP nuyardi_written(SEXP library, SEXP function, SEXP text, SEXP steps);
 
 #endif

@@ -44,6 +44,19 @@ stopifnot(station_check("")$number == 8L, station_check(raw())$number == 8L, sta
           station_check(raw(40000))$number == 2L, station_run(raw())$refused)
 stopifnot(nrow(station_run(text("main", "end"))$variables) == 0L)
 
+# A line `requires *`.
+starred <- sub("requires\tacc\tthis\tn\n", "requires\t*\n", worked, fixed = TRUE)
+filled <- station_fill(starred)
+stopifnot(filled$number == 0L, filled$line == 0L, filled$filled, identical(filled$places, 2L),
+          identical(filled$requires, "requires\tacc\tthis\tn"))
+stopifnot(identical(sub("requires\t*", filled$requires, starred, fixed = TRUE), worked))
+other <- station_fill(text("class S", "field int a", "field int b", "method int m S s", "requires *",
+                           "ensures acc this b acc s a", "end", "main", "end"))
+stopifnot(identical(other$places, 2:3), identical(other$requires, "requires\tacc\tthis\tb\tacc\ts\ta"))
+none <- station_fill(worked)
+stopifnot(none$number == 18L, none$line == 0L, !none$filled, identical(none$places, integer()), is.na(none$requires))
+stopifnot(station_check(starred)$number == 4L, station_fill("")$number == 8L)
+
 # A file.
 path <- tempfile()
 writeBin(charToRaw(worked), path)
@@ -51,7 +64,7 @@ stopifnot(identical(station_script(path), charToRaw(worked)))
 refuses(station_script(file.path(path, "none")), "there is no file")
 
 # Misuse.
-for (call in list(station_check, station_run, station_trial, station_lean, station_bound)) {
+for (call in list(station_check, station_run, station_trial, station_lean, station_bound, station_fill)) {
   for (wrong in list(NULL, 5, NA_character_, c("main", "end"), list(), quote(x)))
     refuses(call(wrong), "text must be a raw vector or one string")
 }
@@ -68,7 +81,9 @@ refuses(.Call(nuyardi:::nuyardi_run, raw(), NULL), "steps is no number")
 refuses(.Call(nuyardi:::nuyardi_run, raw(), -1), "steps must be a whole number")
 refuses(.Call(nuyardi:::nuyardi_lean, "main", 1), "text is no raw vector")
 refuses(.Call(nuyardi:::nuyardi_lean, raw(), 0.5), "steps must be a whole number")
+refuses(.Call(nuyardi:::nuyardi_fill, "main"), "text is no raw vector")
 
 # Words for people.
 stopifnot(identical(capture.output(print(station_check(bare))), "line 7: permission not shown (number 12)"))
+stopifnot(identical(capture.output(print(filled))[2L], "requires acc this n"))
 stopifnot(identical(capture.output(print(bound))[2L], "9 steps at most, 2 frames"))

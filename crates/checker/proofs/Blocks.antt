@@ -605,6 +605,10 @@ module _ (w : List ℕ) where
       stays : (v : Verdict) → OneOf (1 ∷ []) (tagOf verdict-type v) → then (verdictOf v) (λ u. checkBlocks (programIn w) (methodsFrom w (m + 1) (n - (m + 1)))) ≡ verdictOf v
       stays v o = refusal-stays v o (λ u. checkBlocks (programIn w) (methodsFrom w (m + 1) (n - (m + 1))))
 
-  pub main-last : (n m f : ℕ) → n ≤ m → f ≡ mainFirst w → (t : Rules.State) → t ≡ Rules.empty → verdictFrom w f (some t) (atomsFrom w 0 0) [] ≡ checkBlocks (programIn w) (methodsFrom w m (n - m))
+  pub main-alone : (f : ℕ) → f ≡ mainFirst w → (t : Rules.State) → t ≡ Rules.empty → verdictFrom w f (some t) (atomsFrom w 0 0) [] ≡ checkBlocks (programIn w) []
   unfolding checkBlocks checkFrom run programIn
-  main-last n m f h e t d = let z : n - m ≡ 0 = omega arith in rw (z, e, d)
+  main-alone f e t d = rw (e, d)
+
+  pub main-last : (n m : ℕ) → n ≤ m → checkBlocks (programIn w) [] ≡ checkBlocks (programIn w) (methodsFrom w m (n - m))
+  unfolding run
+  main-last n m h = let z : n - m ≡ 0 = omega arith in rw z

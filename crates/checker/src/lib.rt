@@ -8,11 +8,12 @@ use rules::Kind;
 use rules::Machine;
 ghost use mathlib.Core.Path.{_≡_};
 ghost use mathlib.Core.Bool.{false};
+ghost use mathlib.Core.List.{[]};
 ghost use Prim.Native.Nat.{_+_, _≤_, _<_};
 ghost use Rattle.rules.specs.Grammar.{If, Loop, isClosingNumber};
 ghost use Rattle.rules.specs.Answers as Answers;
 ghost use Rattle.tables.specs.Layout.{most-atom-rows};
-ghost use Rattle.rules.specs.Rules.{checkProgram, checkMethod};
+ghost use Rattle.rules.specs.Rules.{checkProgram, checkMethod, checkBlocks};
 ghost use Rattle.tables.specs.Decode.{kindAt, rowCount, methodCount, atomsFrom, methodAt, programIn};
 ghost use Rattle.tables.specs.Tables.{Tables};
 ghost use Rattle.check_state.specs.States.{Wf, stateOf};
@@ -167,7 +168,7 @@ fn check_block(
 }
 
 // The method m. What the arrays held before does not matter.
-fn check_method(
+pub fn check_method(
     w: &[u8],
     m: usize,
     key: &mut [u64; State::SLOTS],
@@ -188,6 +189,15 @@ fn check_method(
     check_block(w, tables::first_row_at(w, m), c, o, key, b)
 }
 
+// Main. What the arrays held before does not matter.
+pub fn check_main(w: &[u8], key: &mut [u64; State::SLOTS], b: &mut [u8; State::BYTES]) -> Verdict
+    requires { ⌜ Tables (now w) × Wf (now key) (now b) ⌝ }
+    ensures { λ r. ⌜ (verdictOf r ≡ checkBlocks (programIn (now (w .entry))) []) × Wf (now (key .exit)) (now (b .exit)) ⌝ }
+{
+    check_forgetting::clear(b);
+    check_block(w, tables::main_first(w), 0, 0, key, b)
+}
+
 // The whole program: its methods in order, and main.
 pub fn check(w: &[u8]) -> Verdict
     requires { ⌜ Tables (now w) ⌝ }
@@ -205,6 +215,5 @@ pub fn check(w: &[u8]) -> Verdict
         };
         m += 1;
     }
-    check_forgetting::clear(&mut b);
-    check_block(w, tables::main_first(w), 0, 0, &mut key, &mut b)
+    check_main(w, &mut key, &mut b)
 }

@@ -8,7 +8,9 @@ use Rattle.rules.specs.Calls.{computing}
 use Rattle.rules.specs.Areas as Areas
 use Rattle.rules.specs.Printed as Printed
 use Rattle.rules.proofs.ExampleRows as ExampleRows
-use Rattle.rules.proofs.ExampleRows.{Row, right, bound, print, checkIn, runIn, boundIn, row, text, lent, oneLine, numbers, method}
+use Rattle.rules.proofs.ExampleRows.{Row, right, bound, fill, print, checkIn, runIn, boundIn, fillIn, row, text, lent, withLine, oneLine, numbers, method}
+use Rattle.rules.proofs.ExampleTexts as ExampleTexts
+use Rattle.rules.proofs.ExampleTexts.{filling}
 
 -- three methods with these lines, and an empty main
 pub threeMethods : List String → List String → List String → List String
@@ -39,6 +41,19 @@ callRows =
     -- "The call fills 8 bytes, 4 each: main's bound and the most frames on a route of calls"; "under the same rows of the table"
     row (oneLine "assert") (boundIn 65536 8) (0 ∷ 65536 ∷ 0 ∷ 2 ∷ 0 ∷ 0 ∷ 0 ∷ 1 ∷ 0 ∷ 0 ∷ 0 ∷ []) ∷
     row (oneLine "assert") (boundIn 65536 4) (65536 ∷ 65536 ∷ 458752 ∷ lent 4) ∷
+    -- W11: "The answer is 4 bytes, the atoms' places from 1, rising, then zeros; a refusal has only zeros."
+    row (filling ("let a this.n" ∷ [])) (fillIn 65536 4) (0 ∷ 65536 ∷ 0 ∷ 2 ∷ 0 ∷ 0 ∷ 0 ∷ []) ∷
+    row (filling ("assert eq 1 2" ∷ [])) (fillIn 65536 4) (1114118 ∷ 65536 ∷ 0 ∷ 0 ∷ 0 ∷ 0 ∷ 0 ∷ []) ∷
+    row (filling []) (fillIn 65536 5) (65536 ∷ 65536 ∷ 458752 ∷ lent 5) ∷
+    row (filling []) (fillIn 65535 4) (65536 ∷ 65535 ∷ 458745 ∷ lent 4) ∷
+    -- "one method may have the star"; an int w has no fields
+    row (withLine 5 "method int m int w" (filling ("set this k a" ∷ []))) fill (0 ∷ 0 ∷ 3 ∷ 0 ∷ 0 ∷ 0 ∷ []) ∷
+    row (withLine 5 "method int m int w" (filling ("set w k a" ∷ []))) fill (7 ∷ 9 ∷ 0 ∷ 0 ∷ 0 ∷ 0 ∷ []) ∷
+    row (filling ("let a w.k" ∷ [])) fill (0 ∷ 0 ∷ 6 ∷ 0 ∷ 0 ∷ 0 ∷ []) ∷
+    row (withLine 7 "ensures acc w p" (filling [])) fill (0 ∷ 0 ∷ 4 ∷ 0 ∷ 0 ∷ 0 ∷ []) ∷
+    row (withLine 7 "ensures *" (filling [])) fill (4 ∷ 7 ∷ 0 ∷ 0 ∷ 0 ∷ 0 ∷ []) ∷
+    row (filling ("assert *" ∷ [])) fill (4 ∷ 9 ∷ 0 ∷ 0 ∷ 0 ∷ 0 ∷ []) ∷
+    row [] fill (8 ∷ 0 ∷ 0 ∷ 0 ∷ 0 ∷ 0 ∷ []) ∷
     -- "then, unless the number is 1 to 9, `run` number line steps, and `var` name value for each"
     row (threeMethods ("let w w" ∷ []) [] []) print (text ("check 9 6" ∷ [])) ∷
     row [] print (text ("check 8 0" ∷ [])) ∷
@@ -48,5 +63,5 @@ callRows =
     []
 
 pub calls-right : T (all right callRows)
-unfolding computing Printed.opened Areas.opened ExampleRows.opened threeMethods twoBlocks
+unfolding computing Printed.opened Areas.opened ExampleRows.opened ExampleTexts.opened threeMethods twoBlocks
 calls-right = tt

@@ -98,7 +98,7 @@ module _ (n : ℕ) where
       go true v x = x
       go false v x = omega arith
 
-lines-few : (t : List ℕ) → length (lines t) ≤ length t
+pub lines-few : (t : List ℕ) → length (lines t) ≤ length t
 unfolding lines onto
 lines-few [] = omega arith
 lines-few (b ∷ t) = go (eqb b 10) (lines t) (lines-few t)

@@ -37,4 +37,8 @@ impl Number {
     pub const UNBOUNDED: u32 = 15;
 
     pub const BOUND_PASSED: u32 = 16;
+
+    pub const NO_SET_ACCEPTED: u32 = 17;
+
+    pub const NOT_ONE_STAR: u32 = 18;
 }

@@ -8,16 +8,17 @@ use native.Mathlib.Omega.{arith}
 use native.Mathlib.Numerals.{add-one}
 use lib.ListN.{length, drop}
 use Rattle.rules.specs.Limits.{most-bytes, work-bytes}
-use Rattle.rules.specs.Base.{ok, no}
+use Rattle.rules.specs.Base.{Name, ok, no}
 use Rattle.rules.specs.Answers.{Refusal, Verdict, accepted, refused, atLine, then}
 use Rattle.rules.specs.Text.{lines}
 use Rattle.rules.specs.Grammar.{Line}
-use Rattle.rules.specs.Places.{Place, firstPlace, placeAfter}
+use Rattle.rules.specs.Places.{Place, firstPlace, placeAfter, scanLines}
 use Rattle.rules.specs.Scope.{Declarations, Scope, declarations, firstScope, scopeAfter, classesOf, methodsOf}
 use Rattle.rules.specs.Items.{Item, resolveLine, resolveLines}
 use Rattle.rules.specs.Reading.{checkFramed}
 use Rattle.read_bytes.specs.Sets.{FirstInSet}
 use Rattle.read_bytes.specs.declared.Set.the-variants.{LineEnd}
+use Rattle.read_fields.proofs.Cuts.{no-lines}
 use Rattle.read_scan.specs.declared.Word.{Word}
 use Rattle.read_scan.specs.Table.{WordAt, LineTable, lineEnd, startOf}
 use Rattle.read_scan.proofs.Table.{found-end, next-start, table-kept}
@@ -33,7 +34,7 @@ use Rattle.rules.specs.Reading.{noProgram, withItems, withItem}
 use Rattle.write_rows.proofs.Kept.{none-written}
 use Rattle.resolve_pass.specs.declared.Pass.{Pass}
 use Rattle.resolve_pass.specs.Passes.{counts, firstPass, lastClass, PassFits, Stands, LineRoom, item, lineAfter}
-use Rattle.resolve_pass.proofs.Places.{At, at-first, at-ready, at-room, at-on}
+use Rattle.resolve_pass.proofs.Places.{At, at-first, at-fits, at-ready, at-last, at-room, at-on}
 use Rattle.resolve_pass.proofs.Unframed.{framedAfter, framed-first, framed-on, framed-last}
 use Rattle.reader.specs.Readings.{refusalOf, framedVerdict, Written, Begins, LineRead, StepIs, resolvedText, AllRead}
 use Rattle.reader.specs.declared.Refusal as Reasons
@@ -151,9 +152,9 @@ module _ {t : List ℕ} {a : ℕ} {p : Pass} {w : List ℕ} (x : Resolving t a p
   unfolding declarationsIn
   method-count = run-length _ _ _
 
-  pub resolving-done : length t ≤ a → AllRead t w p
+  pub resolving-done : {n : ℕ} → LineTable t w n → length t ≤ a → AllRead t w p
   unfolding framedVerdict resolveLines then classesOf methodsOf
-  resolving-done h =
+  resolving-done {n} d h =
       let e : linesOf (drop a t) ≡ [] = walking-done t a h in
       let f = subst (λ (ls : List Line). At t w p (x .place) ls) e (x .stand) .follow in
       record {
@@ -163,6 +164,11 @@ module _ {t : List ℕ} {a : ℕ} {p : Pass} {w : List ℕ} (x : Resolving t a p
         classes = all-above _ _ (f .classes .low) (f .classes .are) ∙ class-count;
         methods = all-above _ _ (f .methods .low) (f .methods .are) ∙ method-count;
         unframed = ap (λ (xs : List Item). checkFramed xs 0) (sym (append-nil (x .items))) ∙ (x .framed [] ∙ framed-last (p .unframed) (p .line));
+        declared = x .declared;
+        fits = at-fits (x .stand);
+        lines = n;
+        table = d;
+        spare = at-last (x .stand) (p .line) _ (subst (λ (ls : List Name). scanLines ls (p .line) (x .place) ≡ accepted (linesOf (drop a t))) (no-lines t a h) (x .walk .rest));
       }
 
   module _ (size : length t ≤ most-bytes) {e : ℕ} (l : a < length t) (f : FirstInSet t a LineEnd e) where

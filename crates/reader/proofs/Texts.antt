@@ -10,26 +10,29 @@ use Rattle.rules.specs.Answers as Answers
 use Rattle.rules.specs.Answers.{Verdict, accepted, refused, then, textTooLong}
 use Rattle.rules.specs.Text.{lines}
 use Rattle.rules.specs.Places.{firstPlace, scanLines}
-use Rattle.rules.specs.Scope.{declarations, firstScope}
+use Rattle.rules.specs.Scope.{Declarations, declarations, firstScope}
 use Rattle.rules.specs.Items.{resolveLines}
 use Rattle.rules.specs.Reading.{readText, program}
 use Rattle.read_scan.specs.Scans.{scanText}
 use Rattle.read_scan.proofs.Scans.{text-taken}
-use Rattle.tables.specs.Decode.{programIn}
-use Rattle.tables.specs.Tables.{Tables}
+use Rattle.read_scan.proofs.Table.{table-kept}
+use Rattle.tables.specs.Decode.{run}
+use Rattle.read_names.specs.Rows.{entryAt, classes-first, methods-first}
 use Rattle.read_scopes.specs.declared.Names.{Names}
+use Rattle.read_scopes.specs.Meanings.{asMethod, namesFrom, declarationsIn}
+use Rattle.read_scopes.proofs.Scopes.{names-kept}
 use Rattle.read_declarations.specs.Texts.{linesOf, TextTaken}
 use Rattle.read_declarations.specs.Declares.{Declares}
 use Rattle.rules.specs.Syntax.{Program}
 use Rattle.rules.specs.Reading.{noProgram, withItems}
 use Rattle.write_rows.specs.Puts.{putHeader}
 use Rattle.targets.specs.Targets.{targetsFrom}
-use Rattle.targets.proofs.Finished.{endedTables, read-tables}
+use Rattle.targets.proofs.Finished.{endedTables, Ended, read-tables}
 use Rattle.resolve_pass.specs.declared.Pass.{Pass}
 use Rattle.resolve_pass.specs.Passes.{counts}
 use Rattle.reader.specs.declared.Refusal.{Refusal}
 use Rattle.reader.specs.declared.Resolved.{Resolved}
-use Rattle.reader.specs.Readings.{refusalOf, resolvedText, AllRead, ResolvedIs, Tabled}
+use Rattle.reader.specs.Readings.{refusalOf, resolvedText, AllRead, ResolvedIs, Noted, Tabled}
 
 -- THE PASSES IN THEIR ORDER
 
@@ -107,16 +110,33 @@ module _ {t w : List ℕ} {p : Pass} (x : AllRead t w p) where
       let s = x .stands in
       rw (← s .rows, ← s .main, ← x .classes, ← x .methods, ← s .classes, ← s .methods)
 
+  noted : TextTaken t → {w′ : List ℕ} → Ended w w′ F (p .atoms) → Noted t w′
+  unfolding declarationsIn F
+  noted k {w′} e =
+      let s = x .stands in
+      let d : declarationsIn t w′ (p .names) ≡ declarations (linesOf t) = names-kept t w w′ (p .names) (x .fits) (e .names) ∙ x .declared in
+      record {
+        taken = k;
+        lines = x .lines;
+        table = table-kept {w′ = w′} (x .table) (λ i a b. e .names i (omega (arith, a)) b);
+        classes = ap (namesFrom t w′ classes-first) (e .classes ∙ (s .classes ∙ x .classes)) ∙ ap (λ (Γ : Declarations). Γ .classes) d;
+        methods = ap (run (λ j. asMethod (entryAt t w′ j)) methods-first) (e .methods ∙ (s .methods ∙ x .methods)) ∙ ap (λ (Γ : Declarations). Γ .methods) d;
+      }
+
   pub tabled : TextTaken t → length t ≤ most-bytes → {w′ : List ℕ} → w′ ≡ ended → Tabled t w′ (p .unframed)
   unfolding F program
   tabled k h {w′} i =
       let s = x .stands in
       let r = read-resolved t h k ∙ x .resolved in
-      let e = read-tables t (x .items) r (counts (p .names)) w (p .atoms) (s .holds) (sym (x .classes) ∙ sym (s .classes)) (sym (x .methods) ∙ sym (s .methods)) in
+      let e : Ended w w′ F (p .atoms) =
+      subst (λ (v : List ℕ). Ended w v F (p .atoms)) (sym (i ∙ ended-is)) (read-tables t (x .items) r (counts (p .names)) w (p .atoms) (s .holds) (sym (x .classes) ∙ sym (s .classes)) (sym (x .methods) ∙ sym (s .methods))) in
       record {
         items = x .items;
         read = r;
-        tables = subst Tables (sym (i ∙ ended-is)) (e .0);
-        program = ap programIn (i ∙ ended-is) ∙ e .1;
+        resolved = x .resolved;
+        tables = e .tables;
+        program = e .program;
         framed = x .unframed;
+        spare = omega (arith, e .atoms, x .spare);
+        noted = noted k e;
       }

@@ -3,10 +3,10 @@ use mathlib.Core.Path.{_≡_}
 use mathlib.Core.Bool.{Bool, cond}
 use mathlib.Core.List.{List, []}
 use mathlib.Core.Option.{Option}
-use Prim.Native.Nat.{ℕ, suc, _≤_, _<_}
+use Prim.Native.Nat.{ℕ, suc, _+_, _≤_, _<_}
 use lib.Dec.{eqb}
 use lib.ListN.{length}
-use Rattle.rules.specs.Limits.{work-bytes, most-bytes}
+use Rattle.rules.specs.Limits.{work-bytes, most-bytes, most-filled}
 use Rattle.rules.specs.Syntax.{Formula}
 use Rattle.rules.specs.Base.{ok, no}
 use Rattle.rules.specs.Answers as Answers
@@ -16,14 +16,16 @@ use Rattle.rules.specs.Scope.{declarations, firstScope}
 use Rattle.rules.specs.Items.{Item, resolveLine, resolveLines}
 use Rattle.rules.specs.Reading.{readText, framed, checkFramed, program}
 use Rattle.read_scan.specs.declared.Word.{Word}
+use Rattle.read_scan.specs.Table.{LineTable}
 use Rattle.read_grammar.specs.Rows.{kindNumbered}
 use Rattle.tables.specs.Layout.{most-atom-rows}
-use Rattle.tables.specs.Decode.{programIn}
+use Rattle.tables.specs.Decode.{programIn, run, atomCount, classCount, methodCount}
 use Rattle.tables.specs.Tables.{Tables}
-use Rattle.read_scopes.specs.Meanings.{declarationsIn, variablesIn, scopeIn}
+use Rattle.read_names.specs.Rows.{entryAt, classes-first, methods-first}
+use Rattle.read_scopes.specs.Meanings.{NamesFit, asMethod, namesFrom, declarationsIn, variablesIn, scopeIn}
 use Rattle.rules.specs.Syntax.{Program}
 use Rattle.rules.specs.Reading.{noProgram, withItems}
-use Rattle.read_declarations.specs.Texts.{linesOf}
+use Rattle.read_declarations.specs.Texts.{linesOf, TextTaken}
 use Rattle.read_declarations.specs.Declares.{FormedAfter}
 use Rattle.read_refusals.specs.Refusals.{refusalIn}
 use Rattle.resolve_pass.specs.declared.Pass.{Pass}
@@ -103,7 +105,7 @@ StepIs t w p l w′ (Step.Refused r) =
 abbrev pub resolvedText : List ℕ → Verdict (List Item)
 resolvedText t = resolveLines (declarations (linesOf t)) (linesOf t) 0 firstScope
 
--- all lines are in the tables
+-- all lines are in the tables; the names and the table of lines stand, and there is room for the atoms of a line that is filled in
 pub record AllRead (t w : List ℕ) (p : Pass) : Type 0 where
   pub items : List Item
   pub resolved : resolvedText t ≡ accepted items
@@ -111,6 +113,11 @@ pub record AllRead (t w : List ℕ) (p : Pass) : Type 0 where
   pub classes : p .above .classes ≡ p .names .classes
   pub methods : after (p .above .methods) ≡ p .names .methods
   pub unframed : checkFramed items 0 ≡ framedVerdict (p .unframed)
+  pub declared : declarationsIn t w (p .names) ≡ declarations (linesOf t)
+  pub fits : NamesFit (p .names)
+  pub lines : ℕ
+  pub table : LineTable t w lines
+  pub spare : p .atoms + most-filled ≤ most-atom-rows
 
 unfoldable pub ResolvedIs : (t w : List ℕ) → Resolved → Type 0
 ResolvedIs t w (Resolved.Done p) = AllRead t w p
@@ -118,13 +125,25 @@ ResolvedIs t w (Resolved.Refused r l) = resolvedText t ≡ refused (refusalOf r)
 
 -- THE TEXT
 
--- the tables in w are those of a text that is read as these items; u is the first line that number 10 refuses, or 0
+-- what stands beside the tables of a text: its lines by their words, and the names of its classes and methods
+pub record Noted (t w : List ℕ) : Type 0 where
+  pub taken : TextTaken t
+  pub lines : ℕ
+  pub table : LineTable t w lines
+  pub classes : namesFrom t w classes-first (classCount w) ≡ declarations (linesOf t) .classes
+  pub methods : run (λ j. asMethod (entryAt t w j)) methods-first (methodCount w) ≡ declarations (linesOf t) .methods
+
+-- the tables in w are those of a text that is read as these items, with room for the atoms of a line that is filled in; u is the first line
+-- that number 10 refuses, or 0
 pub record Tabled (t w : List ℕ) (u : ℕ) : Type 0 where
   pub items : List Item
   pub read : readText t ≡ accepted items
+  pub resolved : resolvedText t ≡ accepted items
   pub tables : Tables w
   pub program : programIn w ≡ program items
   pub framed : checkFramed items 0 ≡ framedVerdict u
+  pub spare : atomCount w + most-filled ≤ most-atom-rows
+  pub noted : Noted t w
 
 unfoldable pub ReadingIs : (t w : List ℕ) → Reading → Type 0
 ReadingIs t w (Reading.Read u) = Tabled t w u

@@ -6,14 +6,15 @@ use native.Mathlib.Omega.{arith}
 use native.Mathlib.Numerals.{add-one}
 use lib.Dec.{T}
 use Rattle.rules.specs.Grammar as Grammar
-use Rattle.rules.specs.Grammar.{Kind, Statement, isKind, isStatement, kindNumber, nextStage}
+use Rattle.rules.specs.Grammar.{Kind, Statement, form, isKind, isStatement, kindNumber, nextStage}
 use Rattle.rules.specs.Grammar.{Class, Field, Method, Requires, Ensures, Main, Var, statement, End}
 use Rattle.rules.specs.Grammar.{inClass, afterMethod, afterMain}
+use Rattle.rules.specs.Base.{between}
 use Rattle.rules.proofs.LineKinds.{is-same}
-use Rattle.rules.specs.Limits.{most-fields, most-locals, most-statements, most-atoms}
+use Rattle.rules.specs.Limits.{most-fields, most-locals, most-statements, most-atoms, most-filled}
 use Rattle.rules.specs.Places as Places
-use Rattle.rules.specs.Places.{Place, firstPlace, stageNumber, inPlace, branchesAfter, placeAfter, withinLimits, oneMoreIf}
-use Rattle.read_bytes.proofs.Search.{true-false}
+use Rattle.rules.specs.Places.{Place, firstPlace, stageNumber, fits, inPlace, branchesAfter, placeAfter, withinLimits, oneMoreIf}
+use Rattle.read_bytes.proofs.Search.{true-false, both-true}
 use Rattle.read_grammar.specs.Coded.{coded}
 use Rattle.tables.specs.Layout.{most-atom-rows, atomLimit}
 use Rattle.read_scopes.specs.declared.Names.{Names}
@@ -21,8 +22,8 @@ use Rattle.read_scopes.specs.declared.Above.{Above}
 use Rattle.read_scopes.specs.Meanings.{moreLocals}
 use Rattle.resolve_pass.specs.declared.Pass.{Pass}
 use Rattle.resolve_pass.specs.Passes.{firstPass, after, oneMore, nextRange, aboveAfter, withBlock, namesAfter, hasAtoms, atomsAtMost, Counts}
-use Rattle.resolve_pass.proofs.Stages.{neededAt, spareAt, localsAt, classesAt, methodsAt, atLeast, limits, Inside, next-inside, openLoops, loops-within, loops-pay}
-use Rattle.resolve_pass.proofs.Stages.{at-header, at-requires, at-body, at-between, at-class, stage-from, stage-to, statement-to}
+use Rattle.resolve_pass.proofs.Stages.{neededAt, spareAt, localsAt, classesAt, methodsAt, atLeast, limits, Inside, next-inside, openLoops, loops-within, loops-ended, loops-pay}
+use Rattle.resolve_pass.proofs.Stages.{at-header, at-requires, at-body, at-between, at-class, at-end, stage-from, stage-to, statement-to}
 
 -- what the stage of a place says of the locals and atoms so far; the `again` to come of each open loop pays for its condition
 pub record Staged (place : Place) (v a : ℕ) : Type 0 where
@@ -31,6 +32,7 @@ pub record Staged (place : Place) (v a : ℕ) : Type 0 where
   pub classes : classesAt (place .stage) (place .main) ≤ place .classes
   pub methods : methodsAt (place .stage) ≤ place .methods
   pub atoms : a + 8 ≤ 8 * (place .statements + place .methods + spareAt (place .stage) (place .main)) + openLoops (place .branches)
+  pub closed : stageNumber afterMain ≤ stageNumber (place .stage) → openLoops (place .branches) ≡ 0
 
 -- the counts of what stands above a place
 pub record Counted (place : Place) (p : Pass) : Type 0 where
@@ -50,7 +52,7 @@ counted-first r m l e =
       fields = refl;
       methods = refl;
       result = e ∙ sym m;
-      staged = record { locals = l; late = λ h. refl; classes = omega arith; methods = omega arith; atoms = omega arith };
+      staged = record { locals = l; late = λ h. refl; classes = omega arith; methods = omega arith; atoms = omega arith; closed = λ h. refl };
     }
 
 -- ONE LINE MORE: what stands above
@@ -90,19 +92,22 @@ module _ {p : Place} {v a : ℕ} (x : Staged p v a) (b : ℕ) where
       (q : Place) (u : ℕ) → 5 ≤ stageNumber (p .stage) → stageNumber (p .stage) ≤ 7 → Inside (q .stage) → q .main ≡ p .main →
       q .locals ≡ p .locals → q .classes ≡ p .classes → q .methods ≡ p .methods → q .statements ≡ suc (p .statements) →
       u ≡ v → b + openLoops (p .branches) ≤ a + 8 + openLoops (q .branches) → Staged q u b
+  unfolding stageNumber
   staged-body q u l h (z, k) m o c d n e g =
       let y = at-body (p .stage) l h in
       record {
         locals = e ∙ (x .locals ∙ (y .locals (p .locals) ∙ (sym o ∙ sym (z .locals (q .locals)))));
-        late = λ i. absurd (omega (arith, k));
+        late = λ i. absurd (omega (arith, k .0));
         classes = rw (z .classes (q .main), m, c) (rw (y .classes (p .main)) at (x .classes));
         methods = omega (arith, z .methods);
         atoms = rw (z .spare (q .main), m, d, n) (omega (arith, g, x .atoms, y .spare (p .main)));
+        closed = λ i. absurd (omega (arith, i, k .1));
       }
 
   staged-class :
       (q : Place) (u : ℕ) → stageNumber (p .stage) ≤ 2 → q .stage ≡ inClass → q .main ≡ p .main → 1 ≤ q .classes →
       q .methods ≡ p .methods → q .statements ≡ p .statements → q .branches ≡ p .branches → u ≡ v → b ≤ a → Staged q u b
+  unfolding stageNumber
   staged-class q u h s m c d n o e g =
       let y = at-between (p .stage) h in
       record {
@@ -111,6 +116,7 @@ module _ {p : Place} {v a : ℕ} (x : Staged p v a) (b : ℕ) where
         classes = rw s c;
         methods = rw s (omega arith);
         atoms = rw (s, d, n, o) (omega (arith, g, x .atoms, y .spare (p .main)));
+        closed = λ i. absurd (omega (arith, ap stageNumber s, i));
       }
 
   staged-method : 1 ≤ stageNumber (p .stage) → stageNumber (p .stage) ≤ 2 → b ≤ a → Staged (placeAfter Method p) 0 b
@@ -122,6 +128,7 @@ module _ {p : Place} {v a : ℕ} (x : Staged p v a) (b : ℕ) where
         classes = omega (arith, x .classes, at-class (p .stage) (p .main) l h);
         methods = omega arith;
         atoms = omega (arith, g, x .atoms, at-between (p .stage) h .spare (p .main));
+        closed = λ i. absurd (omega arith);
       }
 
   staged-main : stageNumber (p .stage) ≤ 2 → b ≤ a → Staged (placeAfter Main p) v b
@@ -134,6 +141,7 @@ module _ {p : Place} {v a : ℕ} (x : Staged p v a) (b : ℕ) where
         classes = omega arith;
         methods = omega arith;
         atoms = omega (arith, g, x .atoms, y .spare (p .main));
+        closed = λ i. absurd (omega arith);
       }
 
   staged-requires : stageNumber (p .stage) ≡ 3 → b ≤ a + 8 → Staged (placeAfter Requires p) v b
@@ -146,6 +154,7 @@ module _ {p : Place} {v a : ℕ} (x : Staged p v a) (b : ℕ) where
         classes = omega (arith, x .classes, y .classes (p .main));
         methods = omega (arith, x .methods, y .methods);
         atoms = omega (arith, g, x .atoms, y .spare (p .main));
+        closed = λ i. absurd (omega arith);
       }
 
   staged-ensures : stageNumber (p .stage) ≡ 4 → b ≤ a + 8 → Staged (placeAfter Ensures p) v b
@@ -159,6 +168,7 @@ module _ {p : Place} {v a : ℕ} (x : Staged p v a) (b : ℕ) where
         classes = rw m (omega (arith, x .classes, y .classes (p .main)));
         methods = omega arith;
         atoms = rw m (omega (arith, g, x .atoms, y .spare (p .main)));
+        closed = λ i. absurd (omega arith);
       }
 
   staged-var : stageNumber (p .stage) ≡ 5 → b ≤ a → Staged (placeAfter Var p) (v + 1) b
@@ -171,11 +181,13 @@ module _ {p : Place} {v a : ℕ} (x : Staged p v a) (b : ℕ) where
         classes = rw (y .classes (p .main)) at (x .classes);
         methods = omega arith;
         atoms = omega (arith, g, x .atoms, y .spare (p .main));
+        closed = λ i. absurd (omega arith);
       }
 
-  staged-end : 5 ≤ stageNumber (p .stage) → stageNumber (p .stage) ≤ 7 → b ≤ a → Staged (placeAfter (statement End) p) 0 b
+  staged-end :
+      5 ≤ stageNumber (p .stage) → stageNumber (p .stage) ≤ 7 → openLoops (p .branches) ≡ 0 → b ≤ a → Staged (placeAfter (statement End) p) 0 b
   unfolding Places.opened Grammar.opened
-  staged-end l h g = go (p .main) refl
+  staged-end l h o g = go (p .main) refl
     where
       go : (m : Bool) → p .main ≡ m → Staged (placeAfter (statement End) p) 0 b
       go true e =
@@ -185,6 +197,7 @@ module _ {p : Place} {v a : ℕ} (x : Staged p v a) (b : ℕ) where
             classes = rw e (omega arith);
             methods = rw e (omega arith);
             atoms = let y = rw e at (at-body (p .stage) l h .spare (p .main)) in rw e (omega (arith, g, rw e at (x .atoms), y));
+            closed = λ i. o;
           }
       go false e =
           let y = at-body (p .stage) l h in
@@ -194,6 +207,7 @@ module _ {p : Place} {v a : ℕ} (x : Staged p v a) (b : ℕ) where
             classes = rw e (omega (arith, rw e at (y .classes (p .main)), rw e at (x .classes)));
             methods = rw e (omega arith);
             atoms = rw e (omega (arith, g, rw e at (x .atoms), rw e at (y .spare (p .main))));
+            closed = λ i. o;
           }
 
 staged-statement :
@@ -205,7 +219,10 @@ staged-statement {p} {a} c x b s i g = go (isKind (statement End) (statement s))
     ends :
         inPlace (statement End) p ≡ true → b ≤ a + atomsAtMost (statement End) →
         Staged (placeAfter (statement End) p) (namesAfter (statement End) c .locals) b
-    ends i g = staged-end x b (stage-from (statement End) p i) (stage-to (statement End) p i) (omega arith)
+    ends i g =
+        let k : Kind = statement End in
+        let f = both-true (between (stageNumber (form k .first)) (stageNumber (form k .last)) (stageNumber (p .stage))) (fits k p) i .1 in
+        staged-end x b (stage-from k p i) (stage-to k p i) (loops-ended (p .branches) f) (omega arith)
 
     go : (e : Bool) → isKind (statement End) (statement s) ≡ e → Staged (placeAfter (statement s) p) (namesAfter (statement s) c .locals) b
     go true e =
@@ -343,3 +360,10 @@ module _ {place : Place} {p : Pass} (x : Counted place p) where
   atoms-room Main i w r e = true-false (sym e)
   atoms-room Var i w r e = true-false (sym e)
   atoms-room (statement s) i w r e = statement-atoms s i w r e
+
+  -- after the last line, which has no atoms, there is room for those of a line that is filled in
+  pub last-room : stageNumber (place .stage) ≡ stageNumber afterMain → withinLimits place ≡ true → p .atoms + most-filled ≤ most-atom-rows
+  unfolding coded
+  last-room h w =
+      let e = x .staged .closed (omega (arith, h)) in
+      omega (arith, x .staged .atoms, e, at-end (place .stage) h .spare (place .main), limits place w .methods, limits place w .statements)

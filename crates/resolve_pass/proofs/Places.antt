@@ -1,28 +1,28 @@
 -- Pass 2 at each line of a text that pass 1 takes: what the line asks is there, and it holds again at the next.
 use mathlib.Core.Path.{_≡_, refl}
 use mathlib.Core.Bool.{Bool, true, false, cond}
-use mathlib.Core.List.{List, _∷_}
-use Prim.Native.Nat.{ℕ, _≤_, _<_}
+use mathlib.Core.List.{List, [], _∷_}
+use Prim.Native.Nat.{ℕ, _+_, _≤_, _<_}
 use native.Mathlib.Omega.{arith}
 use lib.ListN.{length}
 use Rattle.rules.specs.Base.{Name}
-use Rattle.rules.specs.Limits.{most-bytes, most-classes, most-methods, work-bytes}
+use Rattle.rules.specs.Limits.{most-bytes, most-classes, most-methods, most-filled, work-bytes}
 use Rattle.rules.specs.Answers.{accepted}
 use Rattle.rules.specs.Grammar.{Kind, Line, Stage, Method, Var, statement, End, isKind}
 use Rattle.rules.specs.Grammar.{beginning, inClass, afterMethod, afterHeader, afterRequires, inLocals, inBody, afterReturn, afterMain}
 use Rattle.rules.specs.Places as Places
 use Rattle.rules.specs.Places.{Place, firstPlace, inPlace, placeAfter, withinLimits, scanLines}
 use Rattle.read_grammar.specs.Coded.{coded}
-use Rattle.tables.specs.Layout.{most-names}
+use Rattle.tables.specs.Layout.{most-names, most-atom-rows}
 use Rattle.read_scopes.specs.declared.Names.{Names}
 use Rattle.read_scopes.specs.Meanings.{NamesFit, moreLocals, declarationsIn}
 use Rattle.read_declarations.specs.Texts.{linesOf}
 use Rattle.read_declarations.specs.Declares.{Declares}
 use Rattle.resolve_pass.specs.declared.Pass.{Pass}
 use Rattle.resolve_pass.specs.Passes.{firstPass, namesAfter, withBlock, PassFits, LineRoom, LinePut}
-use Rattle.resolve_pass.proofs.Stages.{localsAt, limits, at-least}
+use Rattle.resolve_pass.proofs.Stages.{localsAt, limits, text-ends, at-least}
 use Rattle.resolve_pass.proofs.Counted.{Counted, counted-first, counted-on}
-use Rattle.resolve_pass.proofs.Counted.{rows-room, fields-room, method-room, local-room, header-room, atoms-room}
+use Rattle.resolve_pass.proofs.Counted.{rows-room, fields-room, method-room, local-room, header-room, atoms-room, last-room}
 use Rattle.resolve_pass.proofs.Declared.{Follow, follow-first, follow-on, above-fits, class-next, field-next, method-next}
 
 -- there are rows for what the text declares
@@ -87,6 +87,10 @@ module _ {t w : List ℕ} {p : Pass} {place : Place} {ls : List Line} (x : At t 
   pub at-ready : length t ≤ most-bytes → length w ≡ work-bytes → PassFits t w p
   at-ready a b =
       record { text = a; whole = b; names = at-fits; above = above-fits t w (p .names) at-fits (x .follow); result = x .counted .result }
+
+  -- where no line is to come
+  pub at-last : (n : ℕ) (out : List Line) → scanLines [] n place ≡ accepted out → p .atoms + most-filled ≤ most-atom-rows
+  at-last n out e = last-room (x .counted) (text-ends place n out e) (x .within)
 
 module _ {t w : List ℕ} {p : Pass} {place : Place} {l : Line} {ls : List Line} (x : At t w p place (l ∷ ls))
     (i : inPlace (l .kind) place ≡ true) (m : withinLimits (placeAfter (l .kind) place) ≡ true) where

@@ -15,7 +15,7 @@ use Rattle.rules.specs.Grammar.{Class, Field, Method, Requires, Ensures, Main, 
 use Rattle.rules.specs.Grammar.{Set, Let, New, Call, Return, Assert, Release, If, Else, Join, End, Add, Sub, Loop, Again, Open, Shut}
 use Rattle.rules.specs.Grammar.{beginning, inClass, afterMethod, afterHeader, afterRequires, inLocals, inBody, afterReturn, afterMain}
 use Rattle.rules.specs.Places as Places
-use Rattle.rules.specs.Places.{Place, Branch, beforeElse, afterElse, inLoop, stageNumber, mayJoin, outer, fits, inPlace, branchesAfter, placeAfter, placeLine, withinLimits, ended, scanLines}
+use Rattle.rules.specs.Places.{Place, Branch, beforeElse, afterElse, inLoop, stageNumber, mayJoin, mayEnd, outer, fits, inPlace, branchesAfter, placeAfter, placeLine, withinLimits, ended, scanLines}
 use Rattle.rules.proofs.Lists.{T-true}
 use Rattle.rules.proofs.Tries.{ok-inj, check-ok, refused-accepted}
 use Rattle.read_bytes.proofs.Search.{both-true, true-false, between-true}
@@ -50,7 +50,7 @@ spareAt afterRequires m = 1
 spareAt inLocals m = cond m 1 2
 spareAt inBody m = cond m 1 2
 spareAt afterReturn m = cond m 1 2
-spareAt afterMain m = 1
+spareAt afterMain m = 0
 
 -- locals of the open block, of which n are counted
 abbrev pub localsAt : Stage → ℕ → ℕ
@@ -137,7 +137,7 @@ at-body afterMain l h = absurd (omega arith)
 
 -- a stage at which a statement may stand, unless it is an early one
 abbrev pub Inside : Stage → Type 0
-Inside s = Like s inBody × (5 ≤ stageNumber s)
+Inside s = Like s inBody × ((5 ≤ stageNumber s) × (stageNumber s ≤ 7))
 
 -- after a statement that is not `end`
 pub next-inside : (s : Statement) → Inside (nextStage s)
@@ -145,8 +145,8 @@ unfolding nextStage stageNumber
 next-inside s = go (eqb (statementNumber s) (statementNumber Return))
   where
     go : (b : Bool) → Inside (cond b afterReturn inBody)
-    go true = (at-body afterReturn (omega arith) (omega arith), omega arith)
-    go false = (like inBody, omega arith)
+    go true = (at-body afterReturn (omega arith) (omega arith), (omega arith, omega arith))
+    go false = (like inBody, (omega arith, omega arith))
 
 -- a stage between blocks
 pub record Between (s : Stage) : Type 0 where
@@ -178,17 +178,17 @@ at-class inBody m l h = absurd (omega arith)
 at-class afterReturn m l h = absurd (omega arith)
 at-class afterMain m l h = absurd (omega arith)
 
-at-end : (s : Stage) (m : Bool) → stageNumber s ≡ stageNumber afterMain → neededAt s m ≡ 0
+pub at-end : (s : Stage) → stageNumber s ≡ stageNumber afterMain → Like s afterMain
 unfolding stageNumber
-at-end beginning m e = absurd (omega arith)
-at-end inClass m e = absurd (omega arith)
-at-end afterMethod m e = absurd (omega arith)
-at-end afterHeader m e = absurd (omega arith)
-at-end afterRequires m e = absurd (omega arith)
-at-end inLocals m e = absurd (omega arith)
-at-end inBody m e = absurd (omega arith)
-at-end afterReturn m e = absurd (omega arith)
-at-end afterMain m e = refl
+at-end beginning e = absurd (omega arith)
+at-end inClass e = absurd (omega arith)
+at-end afterMethod e = absurd (omega arith)
+at-end afterHeader e = absurd (omega arith)
+at-end afterRequires e = absurd (omega arith)
+at-end inLocals e = absurd (omega arith)
+at-end inBody e = absurd (omega arith)
+at-end afterReturn e = absurd (omega arith)
+at-end afterMain e = like afterMain
 
 -- A LINE IN PLACE
 pub limits : (p : Place) → withinLimits p ≡ true → Low (coded p)
@@ -240,6 +240,12 @@ loops-outer [] = omega arith
 loops-outer (beforeElse ∷ bs) = omega arith
 loops-outer (afterElse ∷ bs) = omega arith
 loops-outer (inLoop ∷ bs) = omega arith
+
+-- a block ends where no loop is open
+pub loops-ended : (bs : List Branch) → mayEnd bs ≡ true → openLoops bs ≡ 0
+unfolding mayEnd
+loops-ended [] e = refl
+loops-ended (b ∷ bs) e = true-false (sym e)
 
 loops-joined : (bs : List Branch) → mayJoin bs ≡ true → openLoops bs ≡ openLoops (outer bs)
 unfolding mayJoin outer
@@ -331,15 +337,20 @@ module _ (p : Place) where
   at-least-on Var i = body-on (placeAfter Var p) (stage-from Var p i) (omega (arith, stage-to Var p i)) (omega arith) refl
   at-least-on (statement s) i = statement-on (isKind (statement End) (statement s)) s (stage-from (statement s) p i) (statement-to s p i)
 
-  no-lines : (n : ℕ) (out : List Line) → withinLimits p ≡ true → scanLines [] n p ≡ accepted out → atLeast p ≤ 256
-  unfolding scanLines ended coded stageNumber
-  no-lines n out w e = go (eqb (stageNumber (p .stage)) (stageNumber afterMain)) refl e
+  -- a text ends after main
+  pub text-ends : (n : ℕ) (out : List Line) → scanLines [] n p ≡ accepted out → stageNumber (p .stage) ≡ stageNumber afterMain
+  unfolding scanLines ended
+  text-ends n out e = go (eqb (stageNumber (p .stage)) (stageNumber afterMain)) refl e
     where
       go :
           (b : Bool) → eqb (stageNumber (p .stage)) (stageNumber afterMain) ≡ b → cond b (accepted []) (refused textEnds n) ≡ accepted out →
-          atLeast p ≤ 256
-      go true f g = omega (arith, at-end (p .stage) (p .main) (eqb-true _ _ f), limits p w .statements)
+          stageNumber (p .stage) ≡ stageNumber afterMain
+      go true f g = eqb-true _ _ f
       go false f g = refused-accepted g
+
+  no-lines : (n : ℕ) (out : List Line) → withinLimits p ≡ true → scanLines [] n p ≡ accepted out → atLeast p ≤ 256
+  unfolding coded
+  no-lines n out w e = omega (arith, at-end (p .stage) (text-ends n out e) .needed (p .main), limits p w .statements)
 
 -- the `end` lines that are needed are within the limit, where the lines to come are taken
 pub at-least : (ls : List Name) (n : ℕ) (p : Place) (out : List Line) → withinLimits p ≡ true → scanLines ls n p ≡ accepted out → atLeast p ≤ 256

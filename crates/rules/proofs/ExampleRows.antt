@@ -8,8 +8,8 @@ use lib.ListN.{length, replicate}
 use Rattle.rules.specs.Base.{bytes, update, eqName}
 use Rattle.rules.specs.Text.{tab, line-feed}
 use Rattle.rules.specs.Bounds.{total}
-use Rattle.rules.specs.Calls.{Result, Bounds, checkText, runText, trialText, leanText, boundText}
-use Rattle.rules.specs.Areas.{Checked, Ran, Bounded, checkCall, runCall, boundCall}
+use Rattle.rules.specs.Calls.{Result, Bounds, Filled, checkText, runText, trialText, leanText, boundText, fillText}
+use Rattle.rules.specs.Areas.{Checked, Ran, Bounded, FillCalled, checkCall, runCall, boundCall, fillCall}
 use Rattle.rules.specs.Printed.{printed}
 
 -- TEXTS
@@ -59,17 +59,19 @@ method head ls = head ∷ "requires ne this null" ∷ "ensures" ∷ "var int a" 
 
 -- ROWS
 
--- In the last three both areas are lent, with these lengths, and all their bytes are 7.
+-- In the last four both areas are lent, with these lengths, and all their bytes are 7.
 pub data Call : Type 0 where
   check : Call
   run : ℕ → Call
   trial : ℕ → Call
   lean : ℕ → Call
   bound : Call
+  fill : Call
   print : Call
   checkIn : ℕ → Call
   runIn : ℕ → ℕ → ℕ → Call
   boundIn : ℕ → ℕ → Call
+  fillIn : ℕ → ℕ → Call
 
 unfoldable pub shown : Result → List ℕ
 shown r = r .number ∷ r .line ∷ r .steps ∷ r .values
@@ -81,7 +83,7 @@ lent n = replicate n 7
 unfoldable pub summed : List ℕ → List ℕ
 summed work = length work ∷ total work ∷ []
 
--- number and line; of a run also the steps and the values; of a bound also the frames; of the program what it prints; of a call with
+-- number and line; of a run also the steps and the values; of a bound also the frames; of a fill the places; of the program what it prints; of a call with
 -- lent areas what it returns and leaves there
 unfoldable pub answer : List ℕ → Call → List ℕ
 answer t check = let v : ℕ × ℕ = checkText t in v .0 ∷ v .1 ∷ []
@@ -89,10 +91,12 @@ answer t (run k) = shown (runText t k)
 answer t (trial k) = shown (trialText t k)
 answer t (lean k) = shown (leanText t k)
 answer t bound = let b : Bounds = boundText t in b .number ∷ b .line ∷ b .bound ∷ b .frames ∷ []
+answer t fill = let f : Filled = fillText t in f .number ∷ f .line ∷ f .places
 answer t print = printed t
 answer t (checkIn w) = let c : Checked = checkCall t (lent w) in c .returned ∷ summed (c .work)
 answer t (runIn w k n) = let c : Ran = runCall t (lent w) k (lent n) in c .returned ∷ (summed (c .work) ++ c .results)
 answer t (boundIn w n) = let c : Bounded = boundCall t (lent w) (lent n) in c .returned ∷ (summed (c .work) ++ c .bounds)
+answer t (fillIn w n) = let c : FillCalled = fillCall t (lent w) (lent n) in c .returned ∷ (summed (c .work) ++ c .places)
 
 pub record Row : Type 0 where
   pub text : List ℕ

@@ -347,7 +347,38 @@ ofTwo requires ls =
 unfoldable pub withCard : List String → List String
 withCard ls = script ("new s S" ∷ ls)
 
+-- a method of S, which has three fields, with a parameter w of S, the requires to be filled in, at line 6, and, from line 9 on, these lines
+unfoldable pub filling : List String → List String
+filling ls =
+    "class S" ∷
+    "field S p" ∷
+    "field int n" ∷
+    "field int k" ∷
+    "method int m S w" ∷
+    "requires *" ∷
+    "ensures" ∷
+    "var int a" ∷
+    (ls ++ ("end" ∷ "main" ∷ "end" ∷ []))
+
+-- two methods with a star
+unfoldable pub twoStars : List String
+twoStars =
+    "class S" ∷
+    "field int n" ∷
+    "method int m int w" ∷
+    "requires *" ∷
+    "ensures" ∷
+    "end" ∷
+    "method int o int w" ∷
+    "requires *" ∷
+    "ensures" ∷
+    "assert eq 1 2" ∷
+    "end" ∷
+    "main" ∷
+    "end" ∷
+    []
+
 -- Everything above computes where this unfolds.
 unfoldable pub opened : Unit {0}
-unfolding alias acrossCall twice oldValue twoFields branching innerJoin throughPath overTwoPaths oneName oneOnBothSides counting walk leaving unframed deep lower rings tens walked cards linked shutBoth ring ofChain ofTwo withCard
+unfolding alias acrossCall twice oldValue twoFields branching innerJoin throughPath overTwoPaths oneName oneOnBothSides counting walk leaving unframed deep lower rings tens walked cards linked shutBoth ring ofChain ofTwo withCard filling twoStars
 opened = tt

@@ -6,9 +6,9 @@ use Rattle.rules.specs.Base.{all}
 use Rattle.rules.specs.Calls.{computing}
 use Rattle.rules.specs.Printed as Printed
 use Rattle.rules.proofs.ExampleRows as ExampleRows
-use Rattle.rules.proofs.ExampleRows.{Row, check, run, trial, lean, bound, print, row, three, right, text, withLine, times, oneLine, script, numbers, method}
+use Rattle.rules.proofs.ExampleRows.{Row, check, run, trial, lean, bound, fill, print, row, three, right, text, withLine, times, oneLine, script, numbers, method}
 use Rattle.rules.proofs.ExampleTexts as ExampleTexts
-use Rattle.rules.proofs.ExampleTexts.{worked, alias, acrossCall, twice, oldValue, twoFields, branching, innerJoin, throughPath, overTwoPaths, oneName, oneOnBothSides, counting, walk, leaving, unframed, deep, lower, rings, tens, walked, cards, linked, shutBoth, ring, ofChain, ofTwo, withCard}
+use Rattle.rules.proofs.ExampleTexts.{worked, alias, acrossCall, twice, oldValue, twoFields, branching, innerJoin, throughPath, overTwoPaths, oneName, oneOnBothSides, counting, walk, leaving, unframed, deep, lower, rings, tens, walked, cards, linked, shutBoth, ring, ofChain, ofTwo, withCard, filling, twoStars}
 
 abbrev pub rows : List Row
 rows =
@@ -192,6 +192,26 @@ rows =
     -- "It checks first, as run does, and gives a refused text the same number, line and results."
     row (withLine 5 "requires" worked) (lean 1000) (12 ∷ 7 ∷ 0 ∷ three 0 0 0) ∷
     row unframed (lean 1000) (10 ∷ 6 ∷ 0 ∷ three 0 0 0) ∷
+    -- W11: "the first set of at most 4 `acc` atoms, over the fields of `this` and then of w, with which the whole text, its length apart, is
+    -- accepted"
+    row (withLine 5 "requires *" worked) fill (0 ∷ 0 ∷ 2 ∷ 0 ∷ 0 ∷ 0 ∷ []) ∷
+    row (filling ("set w k a" ∷ "set w n a" ∷ "set this k a" ∷ "set this n a" ∷ [])) fill (0 ∷ 0 ∷ 2 ∷ 3 ∷ 5 ∷ 6 ∷ []) ∷
+    row (filling ("set w k a" ∷ "set w n a" ∷ "set this k a" ∷ "set this n a" ∷ "set w p this" ∷ [])) fill
+    (17 ∷ 6 ∷ 0 ∷ 0 ∷ 0 ∷ 0 ∷ []) ∷
+    -- "Fewer atoms come first, then the earlier place where two sets first differ"
+    row (filling ("assert" ∷ [])) fill (0 ∷ 0 ∷ 0 ∷ 0 ∷ 0 ∷ 0 ∷ []) ∷
+    row (filling ("assert ne this w" ∷ [])) fill (0 ∷ 0 ∷ 1 ∷ 4 ∷ 0 ∷ 0 ∷ []) ∷
+    -- "the whole text": the caller's block, and a 10 to 14 in another
+    row (withLine 14 "let s null" (withLine 5 "requires *" worked)) fill (17 ∷ 5 ∷ 0 ∷ 0 ∷ 0 ∷ 0 ∷ []) ∷
+    row (withLine 17 "assert eq s.n 8" (withLine 5 "requires *" worked)) fill (17 ∷ 5 ∷ 0 ∷ 0 ∷ 0 ∷ 0 ∷ []) ∷
+    row (withLine 5 "requires *" unframed) fill (17 ∷ 5 ∷ 0 ∷ 0 ∷ 0 ∷ 0 ∷ []) ∷
+    -- "and with 18 at the second star, or at line 0 where there is none; both come after 9"
+    row twoStars fill (18 ∷ 8 ∷ 0 ∷ 0 ∷ 0 ∷ 0 ∷ []) ∷
+    row worked fill (18 ∷ 0 ∷ 0 ∷ 0 ∷ 0 ∷ 0 ∷ []) ∷
+    row (withLine 10 "let w w" twoStars) fill (9 ∷ 10 ∷ 0 ∷ 0 ∷ 0 ∷ 0 ∷ []) ∷
+    -- the form is `requires` and one field `*`, and in every other call that is number 4
+    row (withLine 6 "requires * acc this n" (filling [])) fill (4 ∷ 6 ∷ 0 ∷ 0 ∷ 0 ∷ 0 ∷ []) ∷
+    row (filling []) check (4 ∷ 6 ∷ []) ∷
     []
 
 pub rows-right : T (all right rows)

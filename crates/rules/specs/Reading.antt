@@ -4,7 +4,7 @@ use mathlib.Core.List.{List, [], _∷_, _++_}
 use Prim.Native.Nat.{ℕ, suc}
 use lib.Dec.{eqb, ltb}
 use lib.ListN.{length}
-use Rattle.rules.specs.Base.{any}
+use Rattle.rules.specs.Base.{Name, any}
 use Rattle.rules.specs.Limits.{most-bytes}
 use Rattle.rules.specs.Answers.{Verdict, accepted, refused, then, textTooLong, unframed}
 use Rattle.rules.specs.Syntax.{Expr, Formula, Stmt, Method, Program}
@@ -15,12 +15,14 @@ use Rattle.rules.specs.Scope.{declarations, firstScope}
 use Rattle.rules.specs.Items.{Item, resolveLines}
 use Rattle.rules.specs.Items.{aClass, aField, aMethod, aRequires, anEnsures, aMain, aLocal, aStatement}
 
--- "2; then line by line 3, 4, 5; then 8; then line by line 6, 7, 9": an item for each line
+-- "then line by line 3, 4, 5; then 8; then line by line 6, 7, 9": an item for each line
+abbrev pub readLines : List Name → Verdict (List Item)
+readLines ls = then (scanLines ls 0 firstPlace) λ ks. resolveLines (declarations ks) ks 0 firstScope
+
+-- "2" comes first
 unfoldable pub readText : List ℕ → Verdict (List Item)
 readText t =
-    let read : Verdict (List Item) =
-    then (scanLines (lines t) 0 firstPlace) λ ls. resolveLines (declarations ls) ls 0 firstScope in
-    cond (ltb most-bytes (length t)) (refused textTooLong 0) read
+    let read : Verdict (List Item) = readLines (lines t) in cond (ltb most-bytes (length t)) (refused textTooLong 0) read
 
 -- NUMBER 10
 

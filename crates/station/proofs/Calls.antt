@@ -1,4 +1,4 @@
--- What the calls return and leave, as `checkCall`, `ranCall` and `boundCall` say.
+-- What the calls return and leave, as `checkCall`, `ranCall`, `boundCall` and `fillCall` say.
 use mathlib.Core.Path.{_≡_, sym, ap, subst, _∙_}
 use mathlib.Core.Bool.{true, false}
 use mathlib.Core.List.{List}
@@ -6,13 +6,13 @@ use Prim.Native.Nat.{ℕ}
 use lib.Dec.{T, eqb}
 use lib.ListN.{length, replicate}
 use borrow.Author.Tests.{eq-eqb, ne-eqb, eqb-true}
-use Rattle.rules.specs.Limits.{work-bytes, results-bytes, bounds-bytes}
-use Rattle.rules.specs.Calls.{Result, Bounds, checkText, boundText}
-use Rattle.rules.specs.Areas.{packed, cleared, resultBytes, boundBytes, checkCall, ranCall, boundCall}
+use Rattle.rules.specs.Limits.{work-bytes, results-bytes, bounds-bytes, places-bytes}
+use Rattle.rules.specs.Calls.{Result, Bounds, checkText, boundText, fillText}
+use Rattle.rules.specs.Areas.{packed, cleared, resultBytes, boundBytes, checkCall, ranCall, boundCall, fillCall}
 use Rattle.rules.proofs.Lists.{T-true, and-both}
 use Rattle.station.specs.declared.Reply.{Reply}
 use Rattle.areas.specs.Lengths.{areasFit}
-use Rattle.station.specs.Station.{numbersIn, runNumbers, CheckLeaves, RunLeaves, BoundLeaves}
+use Rattle.station.specs.Station.{numbersIn, runNumbers, FillAs, CheckLeaves, RunLeaves, BoundLeaves, FillLeaves}
 
 pub pack-is : {f : Reply} {p : ℕ × ℕ} {r : ℕ} → numbersIn f ≡ p → r ≡ packed (f .number) (f .line) → r ≡ packed (p .0) (p .1)
 pack-is e i = i ∙ ap (λ (p : ℕ × ℕ). packed (p .0) (p .1)) e
@@ -68,3 +68,15 @@ module _ (t w b : List ℕ) where
   right-bound m i v e d s c p =
       rw m
       (pack-is (e ∙ ap (λ (x : Bounds). (x .number, x .line)) i) p, cleared-is w v (fit-lengths w b m .0) s c, d ∙ ap boundBytes i)
+
+-- FILL
+module _ (t w b : List ℕ) where
+  pub wrong-fill : areasFit w b places-bytes ≡ false → FillLeaves (fillCall t w b) 65536 w b
+  unfolding fillCall packed areasFit
+  wrong-fill n = (sym (rw n), sym (rw n), sym (rw n))
+
+  pub right-fill :
+      areasFit w b places-bytes ≡ true → {f : Reply} (v : List ℕ) {u d : List ℕ} {r : ℕ} → FillAs (fillText t) f d → length v ≡ work-bytes →
+      u ≡ cleared v → r ≡ packed (f .number) (f .line) → FillLeaves (fillCall t w b) r u d
+  unfolding fillCall areasFit
+  right-fill m v (e, d) s c p = rw m (pack-is e p, cleared-is w v (fit-lengths w b m .0) s c, d)

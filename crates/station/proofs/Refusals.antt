@@ -12,7 +12,7 @@ use Rattle.printer.proofs.Calls.{fits}
 use Rattle.station.specs.Refusals.{ReturnsAtALine}
 use Rattle.station.proofs.Demand3.{check-returned}
 
-zero-returned : (p : ℕ × ℕ) → p ≡ (0, 0) → packed (p .0) (p .1) ≡ 0
+pub zero-returned : (p : ℕ × ℕ) → p ≡ (0, 0) → packed (p .0) (p .1) ≡ 0
 unfolding packed
 zero-returned p e = ap (λ (q : ℕ × ℕ). packed (q .0) (q .1)) e
 

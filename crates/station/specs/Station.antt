@@ -2,16 +2,20 @@
 use mathlib.Core.Path.{_≡_}
 use mathlib.Core.Bool.{cond}
 use mathlib.Core.List.{List}
+use mathlib.Core.Option.{none}
 use Prim.Native.Nat.{ℕ}
 use lib.Dec.{eqb}
 use lib.ListN.{length}
 use Rattle.rules.specs.Limits.{work-bytes}
+use Rattle.rules.specs.Answers.{Verdict}
 use Rattle.rules.specs.Syntax.{Program}
 use Rattle.rules.specs.Bounds.{boundProgram}
 use Rattle.rules.specs.Lean as Lean
-use Rattle.rules.specs.Calls.{Result, Bounds, wholeHeap, outcomeResult, refusedResult, boundNumbers}
-use Rattle.rules.specs.Areas.{resultBytes, boundBytes, Checked, Ran, Bounded}
+use Rattle.rules.specs.Calls.{Result, Bounds, Filled, wholeHeap, outcomeResult, refusedResult, boundNumbers, setFound}
+use Rattle.rules.specs.Areas.{resultBytes, boundBytes, Checked, Ran, Bounded, FillCalled}
+use Rattle.filling.specs.Sets.{accessesIn, setIn}
 use Rattle.reader.specs.Readings.{Tabled}
+use Rattle.star_reader.specs.declared.Star.{Star}
 use Rattle.station.specs.declared.Reply.{Reply}
 
 -- number and line
@@ -48,6 +52,16 @@ unfoldable pub boundFound : Reply → Program → Bounds
 boundFound f P =
     cond (eqb (f .number) 0) (boundNumbers (boundProgram P)) (record { number = f .number; line = f .line; bound = 0; frames = 0 })
 
+-- what a set answers, and what it leaves in the places area
+abbrev pub FillAs : Filled → Reply → List ℕ → Type 0
+FillAs a f places = (numbersIn f ≡ (a .number, a .line)) × (places ≡ a .places)
+
+-- the set for the star s of a text that is read as the program P: none where number 10 refuses a line
+unfoldable pub setAtStar : Program → Star → Verdict (List ℕ)
+setAtStar P s =
+    setFound (s .line)
+    (cond (eqb (s .unframed) 0) (setIn P (s .method) (accessesIn (P .classes) (s .class) (s .parameter))) none)
+
 -- WHAT A CALL RETURNS, and leaves in each area
 abbrev pub CheckLeaves : Checked → ℕ → List ℕ → Type 0
 CheckLeaves c r work = (r ≡ c .returned) × (work ≡ c .work)
@@ -57,3 +71,6 @@ RunLeaves c r work results = (r ≡ c .returned) × (work ≡ c .work) × (resul
 
 abbrev pub BoundLeaves : Bounded → ℕ → List ℕ → List ℕ → Type 0
 BoundLeaves c r work bounds = (r ≡ c .returned) × (work ≡ c .work) × (bounds ≡ c .bounds)
+
+abbrev pub FillLeaves : FillCalled → ℕ → List ℕ → List ℕ → Type 0
+FillLeaves c r work places = (r ≡ c .returned) × (work ≡ c .work) × (places ≡ c .places)

@@ -1,11 +1,13 @@
-// The calls that a host links, `check`, `run`, `trial`, `lean` and `bound`, and what the program prints. Each reads the text, does its work, and
+// The calls that a host links, `check`, `run`, `trial`, `lean`, `bound` and `fill`, and what the program prints. Each reads the text, does its work, and
 // clears the work area.
 mod bounds;
+mod fills;
 mod leans;
 
 use bounds::bound_found;
 use check_entailment::Answer;
 use checker::Verdict;
+use fills::fill_text;
 use leans::lean_found;
 use machine::Ran;
 use printer::Number;
@@ -24,7 +26,7 @@ ghost use Rattle.rules.specs.Reading.{readText};
 ghost use Rattle.rules.specs.Rules.{checkProgram};
 ghost use Rattle.rules.specs.Machine.{runProgram};
 ghost use Rattle.rules.specs.Calls.{verdictNumbers, checkText, wholeHeap, outcomeResult};
-ghost use Rattle.rules.specs.Areas.{packed, wordsBytes, checkCall, runCall, trialCall, leanCall, boundCall};
+ghost use Rattle.rules.specs.Areas.{packed, wordsBytes, checkCall, runCall, trialCall, leanCall, boundCall, fillCall};
 ghost use Rattle.rules.specs.Printed.{printed};
 ghost use Rattle.tables.specs.Numbers.{half-values};
 ghost use Rattle.tables.specs.Decode.{programIn};
@@ -35,7 +37,7 @@ ghost use Rattle.checker.specs.Checked as Checker;
 ghost use Rattle.machine.specs.Runs.{mainValues};
 ghost use Rattle.printer.specs.Writes.{Prints};
 ghost use Rattle.printer.specs.Answers.{out-bytes};
-ghost use Rattle.station.specs.Station.{numbersIn, Found, RunAs, unlessRefused, CheckLeaves, RunLeaves, BoundLeaves};
+ghost use Rattle.station.specs.Station.{numbersIn, Found, RunAs, unlessRefused, CheckLeaves, RunLeaves, BoundLeaves, FillLeaves};
 
 // A number of document 01's table, and the line that it goes with.
 pub struct Reply {
@@ -252,6 +254,22 @@ pub extern "C" fn bound(text: &[u8], work: &mut [u8], bounds: &mut [u8]) -> u32
     }
     let found = check_text(text, work);
     let f = bound_found(found, work, bounds);
+    areas::clear(work);
+    pack(f)
+}
+
+// FILL
+
+// Which permissions does the one line `requires *` need? The number and line as for check, or 17 or 18; the places of the first set with which the
+// text is accepted in `places`.
+#[no_mangle]
+pub extern "C" fn fill(text: &[u8], work: &mut [u8], places: &mut [u8]) -> u32
+    ensures { λ r. ⌜ FillLeaves (fillCall (now (text .entry)) (now (work .entry)) (now (places .entry))) r (now (work .exit)) (now (places .exit)) ⌝ }
+{
+    if !areas::fit(work, places, Machine::PLACES_BYTES) {
+        return Reply::WRONG_LENGTH;
+    }
+    let f = fill_text(text, work, places);
     areas::clear(work);
     pack(f)
 }

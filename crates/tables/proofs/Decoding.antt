@@ -11,7 +11,7 @@ use Rattle.tables.specs.Tables.{RowFits, HasTarget, TargetFits, MethodFi
 use Rattle.tables.specs.Stores.{Kept, SameTables}
 use Rattle.tables.proofs.Bytes.{half-kept}
 use Rattle.tables.proofs.Runs.{run-same}
-use Rattle.tables.proofs.Kept.{RowsKept, all-rows, atom-fits-kept, row-same, operands-fit-kept, first-row-kept, formulas-fit-kept, requires-kept, ensures-kept, method-same, field-count-kept, place-kept, class-same, class-fits-kept}
+use Rattle.tables.proofs.Kept.{RowsKept, all-rows, one-atom, atom-fits-kept, row-same, operands-fit-kept, one-method, after-requires, first-row-kept, formulas-fit-kept, requires-kept, ensures-kept, method-same, field-count-kept, place-kept, class-same, class-fits-kept}
 
 module _ (w w′ : List ℕ) (same : SameTables w w′) where
   byte : (i : ℕ) → i < names-at → byteAt w′ i ≡ byteAt w i
@@ -44,7 +44,7 @@ module _ (w w′ : List ℕ) (same : SameTables w w′) where
   kind-same i l = byte (rowPlace i) (omega arith)
 
   pub first-row-same : (m : ℕ) → m < most-methods → firstRowAt w′ m ≡ firstRowAt w m
-  first-row-same m l = first-row-kept w w′ most-methods (part _ _ (omega arith)) m l
+  first-row-same m l = first-row-kept w w′ m (part _ _ (omega arith))
 
   module _ (c : ℕ) (l : c < most-classes) where
     pub field-count-same : fieldCountAt w′ c ≡ fieldCountAt w c
@@ -80,16 +80,16 @@ module _ (w w′ : List ℕ) (same : SameTables w w′) where
     -- METHODS AND CLASSES
     module _ (m : ℕ) (l : m < methodCount w) where
       pub requires-same : requiresAt w′ m ≡ requiresAt w m
-      requires-same = requires-kept w w′ _ methods-part m l _ (tables .method-fits m l .formulas) atoms-part
+      requires-same = requires-kept w w′ m (one-method w w′ _ methods-part m l) _ (tables .method-fits m l .formulas) atoms-part
 
       pub ensures-same : ensuresAt w′ m ≡ ensuresAt w m
-      ensures-same = ensures-kept w w′ _ methods-part m l _ (tables .method-fits m l .formulas) atoms-part
+      ensures-same = ensures-kept w w′ m (after-requires w w′ m (one-method w w′ _ methods-part m l)) _ (tables .method-fits m l .formulas .ensures) atoms-part
 
     methods-same : methodsFrom w′ 0 (methodCount w′) ≡ methodsFrom w 0 (methodCount w)
     methods-same =
         rw methods-count-same
         (run-same (methodAt w) (methodAt w′) 0 _
-        (λ m _ l. method-same w w′ _ methods-part m (omega arith) _ (tables .method-fits m (omega arith) .formulas) atoms-part))
+        (λ m _ l. method-same w w′ m (one-method w w′ _ methods-part m (omega arith)) _ (tables .method-fits m (omega arith) .formulas) atoms-part))
 
     classes-same : classesFrom w′ 0 (classCount w′) ≡ classesFrom w 0 (classCount w)
     classes-same =
@@ -133,7 +133,7 @@ module _ (w w′ : List ℕ) (same : SameTables w w′) where
     method-fits-kept m l =
         let f : MethodFits w m = tables .method-fits m l in
         record {
-          formulas = rw atoms-count-same (formulas-fit-kept w w′ _ methods-part m l _ (f .formulas));
+          formulas = rw atoms-count-same (formulas-fit-kept w w′ m (one-method w w′ _ methods-part m l) _ (f .formulas));
           block = block-kept _ _ (first-row-same m (omega (arith, tables .methods))) (f .block);
         }
 
@@ -148,7 +148,7 @@ module _ (w w′ : List ℕ) (same : SameTables w w′) where
           row-fits = λ i l. row-fits-kept i (omega (arith, rows-count-same));
           atom-fits = λ a l.
               let k : a < atomCount w = omega (arith, atoms-count-same) in
-              atom-fits-kept w w′ _ atoms-part a k (tables .atom-fits a k);
+              atom-fits-kept w w′ a (one-atom w w′ _ atoms-part a k) (tables .atom-fits a k);
           method-fits = λ m l. method-fits-kept m (omega (arith, methods-count-same));
           class-fits = λ c l.
               let k : c < classCount w = omega (arith, classes-count-same) in

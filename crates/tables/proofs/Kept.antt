@@ -11,8 +11,8 @@ use Rattle.rules.specs.Grammar.{isComputing}
 use Rattle.rules.specs.Syntax.{Formula, assign, assert, release, simple, join}
 use Rattle.tables.specs.declared.Operands.{Operands}
 use Rattle.tables.specs.Layout.{rows-at, methods-at, classes-at, places-at, atoms-at, most-names}
-use Rattle.tables.specs.Decode.{byteAt, halfAt, exprAt, leftAt, rightAt, atomAt, atomsFrom, atomPlace, ifAt, loopAt, rowPlace, kindAt, operandsAt, formulaOf, stmtOf, rowAt, requiresAt, ensuresAt, methodPlace, firstRowAt, methodAt, classPlace, placesPlace, fieldCountAt, fieldNameAt, fieldAt, classAt}
-use Rattle.tables.specs.Tables.{AtomFitsAt, Declared, OperandsFit, FormulasFit, ClassFits, placeAt}
+use Rattle.tables.specs.Decode.{byteAt, halfAt, exprAt, leftAt, rightAt, atomAt, atomsFrom, atomPlace, ifAt, loopAt, rowPlace, kindAt, operandsAt, formulaOf, stmtOf, rowAt, requiresFirstAt, requiresCountAt, ensuresFirstAt, ensuresCountAt, requiresAt, ensuresAt, methodPlace, firstRowAt, methodAt, classPlace, placesPlace, fieldCountAt, fieldNameAt, fieldAt, classAt}
+use Rattle.tables.specs.Tables.{AtomFitsAt, AtomsFit, Declared, OperandsFit, FormulasFit, ClassFits, placeAt}
 use Rattle.tables.specs.Stores.{Kept}
 use Rattle.tables.proofs.Bytes.{half-kept}
 use Rattle.tables.proofs.Runs.{run-same}
@@ -24,50 +24,56 @@ cond-same true p q = p tt
 cond-same false p q = q (λ t. t)
 
 -- ATOMS
+
+-- one of the first n
+pub one-atom :
+    (w w′ : List ℕ) (n : ℕ) → Kept atoms-at (atomPlace n) w w′ → (a : ℕ) → a < n → Kept (atomPlace a) (atomPlace a + 12) w w′
+one-atom w w′ n K a l i p q = K i (omega arith) (omega arith)
+
+module _ (w w′ : List ℕ) (a : ℕ) (K : Kept (atomPlace a) (atomPlace a + 12) w w′) where
+  at : (k : ℕ) → k < 12 → byteAt w′ (atomPlace a + k) ≡ byteAt w (atomPlace a + k)
+  at k m = K (atomPlace a + k) (omega arith) (omega arith)
+
+  at-kind : byteAt w′ (atomPlace a) ≡ byteAt w (atomPlace a)
+  at-kind = K (atomPlace a) (omega arith) (omega arith)
+
+  side-kept :
+      (t t′ i : ℕ) → t′ ≡ t → atomPlace a ≤ i → i + 4 ≤ atomPlace a + 12 → exprAt w′ t′ i ≡ exprAt w t i
+  unfolding exprAt
+  side-kept t t′ i e p q =
+      let b0 : byteAt w′ i ≡ byteAt w i = K i (omega arith) (omega arith) in
+      let b1 : byteAt w′ (i + 1) ≡ byteAt w (i + 1) = K (i + 1) (omega arith) (omega arith) in
+      let b2 : byteAt w′ (i + 2) ≡ byteAt w (i + 2) = K (i + 2) (omega arith) (omega arith) in
+      let b3 : byteAt w′ (i + 3) ≡ byteAt w (i + 3) = K (i + 3) (omega arith) (omega arith) in
+      rw e (simp (b0, b1, b2, b3))
+
+  left-kept : leftAt w′ a ≡ leftAt w a
+  unfolding leftAt
+  left-kept = side-kept _ _ (atomPlace a + 4) (at 1 (omega arith)) (omega arith) (omega arith)
+
+  right-kept : rightAt w′ a ≡ rightAt w a
+  unfolding rightAt
+  right-kept = side-kept _ _ (atomPlace a + 8) (at 2 (omega arith)) (omega arith) (omega arith)
+
+  if-kept : ifAt w′ a ≡ ifAt w a
+  if-kept = simp (at-kind, left-kept, right-kept)
+
+  loop-kept : {φ ψ : Formula ℕ} → φ ≡ ψ → loopAt w′ a φ ≡ loopAt w a ψ
+  loop-kept e = rw e (simp (at-kind, left-kept, right-kept))
+
+  atom-kept : atomAt w′ a ≡ atomAt w a
+  unfolding atomAt
+  atom-kept =
+      let x : byteAt w′ (atomPlace a + 4) ≡ byteAt w (atomPlace a + 4) = at 4 (omega arith) in
+      let f : byteAt w′ (atomPlace a + 5) ≡ byteAt w (atomPlace a + 5) = at 5 (omega arith) in
+      simp (at-kind, x, f, left-kept, right-kept)
+
+  pub atom-fits-kept : AtomFitsAt w a → AtomFitsAt w′ a
+  atom-fits-kept f = rw (at-kind, at 1 (omega arith), left-kept, right-kept) f
+
 module _ (w w′ : List ℕ) (n : ℕ) (K : Kept atoms-at (atomPlace n) w w′) where
-  module _ (a : ℕ) (l : a < n) where
-    at : (k : ℕ) → k < 12 → byteAt w′ (atomPlace a + k) ≡ byteAt w (atomPlace a + k)
-    at k m = K (atomPlace a + k) (omega arith) (omega arith)
-
-    at-kind : byteAt w′ (atomPlace a) ≡ byteAt w (atomPlace a)
-    at-kind = K (atomPlace a) (omega arith) (omega arith)
-
-    side-kept :
-        (t t′ i : ℕ) → t′ ≡ t → atomPlace a ≤ i → i + 4 ≤ atomPlace a + 12 → exprAt w′ t′ i ≡ exprAt w t i
-    unfolding exprAt
-    side-kept t t′ i e p q =
-        let b0 : byteAt w′ i ≡ byteAt w i = K i (omega arith) (omega arith) in
-        let b1 : byteAt w′ (i + 1) ≡ byteAt w (i + 1) = K (i + 1) (omega arith) (omega arith) in
-        let b2 : byteAt w′ (i + 2) ≡ byteAt w (i + 2) = K (i + 2) (omega arith) (omega arith) in
-        let b3 : byteAt w′ (i + 3) ≡ byteAt w (i + 3) = K (i + 3) (omega arith) (omega arith) in
-        rw e (simp (b0, b1, b2, b3))
-
-    left-kept : leftAt w′ a ≡ leftAt w a
-    unfolding leftAt
-    left-kept = side-kept _ _ (atomPlace a + 4) (at 1 (omega arith)) (omega arith) (omega arith)
-
-    right-kept : rightAt w′ a ≡ rightAt w a
-    unfolding rightAt
-    right-kept = side-kept _ _ (atomPlace a + 8) (at 2 (omega arith)) (omega arith) (omega arith)
-
-    if-kept : ifAt w′ a ≡ ifAt w a
-    if-kept = simp (at-kind, left-kept, right-kept)
-
-    loop-kept : {φ ψ : Formula ℕ} → φ ≡ ψ → loopAt w′ a φ ≡ loopAt w a ψ
-    loop-kept e = rw e (simp (at-kind, left-kept, right-kept))
-
-    atom-kept : atomAt w′ a ≡ atomAt w a
-    unfolding atomAt
-    atom-kept =
-        let x : byteAt w′ (atomPlace a + 4) ≡ byteAt w (atomPlace a + 4) = at 4 (omega arith) in
-        let f : byteAt w′ (atomPlace a + 5) ≡ byteAt w (atomPlace a + 5) = at 5 (omega arith) in
-        simp (at-kind, x, f, left-kept, right-kept)
-
-    pub atom-fits-kept : AtomFitsAt w a → AtomFitsAt w′ a
-    atom-fits-kept f = rw (at-kind, at 1 (omega arith), left-kept, right-kept) f
-
   pub atoms-kept : (a k : ℕ) → a + k ≤ n → atomsFrom w′ a k ≡ atomsFrom w a k
-  atoms-kept a k l = run-same (atomAt w) (atomAt w′) a k (λ i p q. atom-kept i (omega arith))
+  atoms-kept a k l = run-same (atomAt w) (atomAt w′) a k (λ i p q. atom-kept w w′ i (one-atom w w′ n K i (omega arith)))
 
   -- ROWS
   module _ (D : Declared) (r : Operands) (fits : OperandsFit D n r) where
@@ -85,14 +91,14 @@ module _ (w w′ : List ℕ) (n : ℕ) (K : Kept atoms-at (atomPlace n) w w′) 
     stmt-kept =
         let to-let :
         T (eqb (r .kind) 9) → simple (assign (r .x) (rightAt w′ (r .first))) ≡ simple (assign (r .x) (rightAt w (r .first))) =
-        λ t. rw (right-kept (r .first) (one (inl (eqb→eq (r .kind) 9 t)))) in
+        λ t. rw (right-kept w w′ (r .first) (one-atom w w′ n K _ (one (inl (eqb→eq (r .kind) 9 t))))) in
         let to-assert : simple (assert (formulaOf w′ r)) ≡ simple (assert (formulaOf w r)) = rw formula-kept in
         let to-release : simple (release (formulaOf w′ r)) ≡ simple (release (formulaOf w r)) = rw formula-kept in
         let to-if : T (eqb (r .kind) 15) → ifAt w′ (r .first) ≡ ifAt w (r .first) =
-        λ t. if-kept (r .first) (one (inr (eqb→eq (r .kind) 15 t))) in
+        λ t. if-kept w w′ (r .first) (one-atom w w′ n K _ (one (inr (eqb→eq (r .kind) 15 t)))) in
         let to-join : join (formulaOf w′ r) ≡ join (formulaOf w r) = rw formula-kept in
         let to-loop : T (eqb (r .kind) 21) → loopAt w′ (r .first - 1) (formulaOf w′ r) ≡ loopAt w (r .first - 1) (formulaOf w r) =
-        λ t. loop-kept (r .first - 1) (before (eqb→eq (r .kind) 21 t)) formula-kept in
+        λ t. loop-kept w w′ (r .first - 1) (one-atom w w′ n K _ (before (eqb→eq (r .kind) 21 t))) formula-kept in
         cond-same (eqb (r .kind) 8) (λ _. refl)
         (λ _. cond-same (eqb (r .kind) 9) to-let
         (λ _. cond-same (eqb (r .kind) 10) (λ _. refl)
@@ -144,40 +150,62 @@ module _ (w w′ : List ℕ) (R : ℕ) (K : RowsKept R w w′) (i : ℕ) (l : i 
     operands-fit-kept = rw operands-kept fits
 
 -- METHODS
-module _ (w w′ : List ℕ) (M : ℕ) (K : Kept methods-at (methodPlace M) w w′) (m : ℕ) (l : m < M) where
-  method-byte : (k : ℕ) → k < 8 → byteAt w′ (methodPlace m + k) ≡ byteAt w (methodPlace m + k)
-  method-byte k p = K (methodPlace m + k) (omega arith) (omega arith)
 
-  method-half : (i : ℕ) → methodPlace m ≤ i → i + 2 ≤ methodPlace m + 8 → halfAt w′ i ≡ halfAt w i
-  method-half i p q = half-kept methods-at (methodPlace M) w w′ K i (omega arith) (omega arith)
+-- a method among the first M
+pub one-method :
+    (w w′ : List ℕ) (M : ℕ) → Kept methods-at (methodPlace M) w w′ → (m : ℕ) → m < M → Kept (methodPlace m) (methodPlace m + 8) w w′
+one-method w w′ M K m l i p q = K i (omega arith) (omega arith)
+
+-- what follows its requires
+module _ (w w′ : List ℕ) (m : ℕ) (K : Kept (methodPlace m + 3) (methodPlace m + 8) w w′) where
+  ensures-first-kept : ensuresFirstAt w′ m ≡ ensuresFirstAt w m
+  ensures-first-kept = half-kept _ _ w w′ K (methodPlace m + 4) (omega arith) (omega arith)
+
+  ensures-count-kept : ensuresCountAt w′ m ≡ ensuresCountAt w m
+  ensures-count-kept = K (methodPlace m + 3) (omega arith) (omega arith)
 
   pub first-row-kept : firstRowAt w′ m ≡ firstRowAt w m
-  first-row-kept = method-half (methodPlace m + 6) (omega arith) (omega arith)
+  first-row-kept = half-kept _ _ w w′ K (methodPlace m + 6) (omega arith) (omega arith)
+
+  module _ (n : ℕ) (fits : AtomsFit n (ensuresFirstAt w m) (ensuresCountAt w m)) where
+    pub ensures-fit-kept : AtomsFit n (ensuresFirstAt w′ m) (ensuresCountAt w′ m)
+    ensures-fit-kept = rw (ensures-first-kept, ensures-count-kept) fits
+
+    pub ensures-kept : Kept atoms-at (atomPlace n) w w′ → ensuresAt w′ m ≡ ensuresAt w m
+    unfolding ensuresAt
+    ensures-kept KA = rw (ensures-first-kept, ensures-count-kept) (atoms-kept w w′ n KA _ _ (fits .1))
+
+module _ (w w′ : List ℕ) (m : ℕ) (K : Kept (methodPlace m) (methodPlace m + 8) w w′) where
+  requires-first-kept : requiresFirstAt w′ m ≡ requiresFirstAt w m
+  requires-first-kept = half-kept _ _ w w′ K (methodPlace m) (omega arith) (omega arith)
+
+  requires-count-kept : requiresCountAt w′ m ≡ requiresCountAt w m
+  requires-count-kept = K (methodPlace m + 2) (omega arith) (omega arith)
+
+  pub after-requires : Kept (methodPlace m + 3) (methodPlace m + 8) w w′
+  after-requires i p q = K i (omega arith) q
 
   module _ (n : ℕ) (fits : FormulasFit w n m) where
     pub formulas-fit-kept : FormulasFit w′ n m
     formulas-fit-kept =
         record {
-          requires = rw (method-half (methodPlace m) (omega arith) (omega arith), method-byte 2 (omega arith)) (fits .requires);
-          ensures = rw (method-half (methodPlace m + 4) (omega arith) (omega arith), method-byte 3 (omega arith)) (fits .ensures);
+          requires = rw (requires-first-kept, requires-count-kept) (fits .requires);
+          ensures = ensures-fit-kept w w′ m after-requires n (fits .ensures);
         }
 
     module _ (KA : Kept atoms-at (atomPlace n) w w′) where
       pub requires-kept : requiresAt w′ m ≡ requiresAt w m
       unfolding requiresAt
-      requires-kept =
-          rw (method-half (methodPlace m) (omega arith) (omega arith), method-byte 2 (omega arith))
-          (atoms-kept w w′ n KA _ _ (fits .requires .1))
-
-      pub ensures-kept : ensuresAt w′ m ≡ ensuresAt w m
-      unfolding ensuresAt
-      ensures-kept =
-          rw (method-half (methodPlace m + 4) (omega arith) (omega arith), method-byte 3 (omega arith))
-          (atoms-kept w w′ n KA _ _ (fits .ensures .1))
+      requires-kept = rw (requires-first-kept, requires-count-kept) (atoms-kept w w′ n KA _ _ (fits .requires .1))
 
       pub method-same : methodAt w′ m ≡ methodAt w m
       unfolding methodAt
-      method-same = λ j. record { requires = requires-kept j; ensures = ensures-kept j; first = first-row-kept j }
+      method-same =
+          λ j. record {
+            requires = requires-kept j;
+            ensures = ensures-kept w w′ m after-requires n (fits .ensures) KA j;
+            first = first-row-kept w w′ m after-requires j;
+          }
 
 -- CLASSES
 module _

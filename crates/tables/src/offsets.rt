@@ -6,6 +6,8 @@ pub struct HeaderAt {}
 impl HeaderAt {
     pub const ROWS: usize = 0;
 
+    pub const ATOMS: usize = 2;
+
     pub const CLASSES: usize = 4;
 
     pub const METHODS: usize = 5;

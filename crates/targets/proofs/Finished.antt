@@ -8,7 +8,7 @@ use native.Mathlib.Omega.{arith}
 use native.Mathlib.Decide.{decLt}
 use lib.Dec.{T, eqb, ltb}
 use lib.ListN.{length, getD, drop, drop-of-length-le}
-use Rattle.rules.specs.Limits.{most-statements}
+use Rattle.rules.specs.Limits.{most-statements, work-bytes}
 use Rattle.rules.specs.Syntax.{Row, Program, noRow}
 use Rattle.rules.proofs.Lists.{decide-eq}
 use Rattle.rules.specs.Answers.{accepted}
@@ -17,7 +17,8 @@ use Rattle.rules.specs.Reading.{readText, program}
 use Rattle.rules.specs.Syntax.{Method}
 use Rattle.nesting.specs.Nests.{rowsNest}
 use Rattle.nesting.proofs.ReadOrder.{BodiesNest, read-nests, read-blocks}
-use Rattle.tables.specs.Decode.{byteAt, rowPlace, targetPlace, kindAt, operandsAt, stmtAt, rowAt, rowsFrom, firstRowAt, allRows, targetAt, rowCount, methodCount, mainFirst, programIn, methodAt, methodsFrom}
+use Rattle.tables.specs.Decode.{byteAt, rowPlace, targetPlace, kindAt, operandsAt, stmtAt, rowAt, rowsFrom, firstRowAt, allRows, targetAt, rowCount, atomCount, classCount, methodCount, mainFirst, programIn, methodAt, methodsFrom}
+use Rattle.tables.specs.Layout.{methods-at, names-at}
 use Rattle.tables.specs.Tables.{Declared, HasTarget, TargetFits, Tables, BlockFits, nested}
 use Rattle.tables.specs.Stores.{Kept}
 use Rattle.tables.proofs.Bytes.{Outside, put-half-byte, half-kept}
@@ -32,12 +33,53 @@ use Rattle.targets.proofs.Stacks.{put-length}
 use Rattle.targets.proofs.TargetsRight.{targets-right}
 use Rattle.targets.proofs.Nesting.{rows-nested, not-last}
 
--- TARGETS LEAVE WHAT THE TABLES MEAN
-
 -- every open row is a row
 abbrev Small : List ℕ → Type 0
 Small [] = Unit {0}
 Small (i ∷ st) = (i < 256) × Small st
+
+open-small : (k i : ℕ) (st : List ℕ) → i < 256 → Small st → Small (openAfter k i st)
+unfolding openAfter pushed popped replaced
+open-small k i st l s = go (eqb k 15 || eqb k 21) (eqb k 16) (eqb k 17 || eqb k 22) (ltb (length st) 4) st s
+  where
+    go :
+        (a b c d : Bool) (st : List ℕ) → Small st →
+        Small (cond a (cond d (i ∷ st) st) (cond b (replaced i st) (cond c (popped st) st)))
+    go true b c true st s = (l, s)
+    go true b c false st s = s
+    go false true c d [] s = s
+    go false true c d (t ∷ st) s = (l, s .1)
+    go false false true d [] s = s
+    go false false true d (t ∷ st) s = s .1
+    go false false false d st s = s
+
+-- TARGETS STAND IN THE ROWS
+
+put-kept : (w : List ℕ) (t v : ℕ) → t < most-statements → Kept methods-at work-bytes w (putTarget w t v)
+unfolding putTarget
+put-kept w t v l j a b = put-half-byte w (targetPlace t) v j (inr (omega arith))
+
+work-kept : (w : List ℕ) (k i : ℕ) (st : List ℕ) → i < most-statements → Small st → Kept methods-at work-bytes w (workAfter w k i st)
+unfolding workAfter closed
+work-kept w k i [] l s = λ j a b. refl
+work-kept w k i (t ∷ st) l s = go (eqb k 16) (eqb k 17) (eqb k 22)
+  where
+    go :
+        (a b c : Bool) →
+        Kept methods-at work-bytes w (cond a (putTarget w t (i + 1)) (cond b (putTarget w t i) (cond c (putTarget (putTarget w t (i + 1)) i t) w)))
+    go true b c = put-kept w t (i + 1) (s .0)
+    go false true c = put-kept w t i (s .0)
+    go false false true = λ j a b. put-kept (putTarget w t (i + 1)) i t l j a b ∙ put-kept w t (i + 1) (s .0) j a b
+    go false false false = λ j a b. refl
+
+targets-kept : (m : ℕ) (w : List ℕ) (i : ℕ) (st : List ℕ) → i + m ≤ most-statements → Small st → Kept methods-at work-bytes w (targetsFrom w i m st)
+unfolding targetsFrom
+targets-kept zero w i st l s = λ j a b. refl
+targets-kept (suc m) w i st l s = λ j a b.
+    targets-kept m (workAfter w (kindAt w i) i st) (suc i) _ (omega (arith, l)) (open-small (kindAt w i) i st (omega (arith, l)) s) j a b
+    ∙ work-kept w (kindAt w i) i st (omega (arith, l)) s j a b
+
+-- TARGETS LEAVE WHAT THE TABLES MEAN
 
 module _ (D : Declared) (F : Program) (n : ℕ) where
   -- a target may be written at any time
@@ -72,21 +114,6 @@ module _ (D : Declared) (F : Program) (n : ℕ) where
       go false false true = put-holds (putTarget w t (i + 1)) i t l past
       go false false false = h
 
-  open-small : (k i : ℕ) (st : List ℕ) → i < 256 → Small st → Small (openAfter k i st)
-  unfolding openAfter pushed popped replaced
-  open-small k i st l s = go (eqb k 15 || eqb k 21) (eqb k 16) (eqb k 17 || eqb k 22) (ltb (length st) 4) st s
-    where
-      go :
-          (a b c d : Bool) (st : List ℕ) → Small st →
-          Small (cond a (cond d (i ∷ st) st) (cond b (replaced i st) (cond c (popped st) st)))
-      go true b c true st s = (l, s)
-      go true b c false st s = s
-      go false true c d [] s = s
-      go false true c d (t ∷ st) s = (l, s .1)
-      go false false true d [] s = s
-      go false false true d (t ∷ st) s = s .1
-      go false false false d st s = s
-
   targets-hold : (m : ℕ) (w : List ℕ) (i : ℕ) (st : List ℕ) → i + m ≤ 256 → Small st → Holds D w F n → Holds D (targetsFrom w i m st) F n
   unfolding targetsFrom
   targets-hold zero w i st l s h = h
@@ -98,9 +125,9 @@ module _ (D : Declared) (F : Program) (n : ℕ) where
 noneMethod : Method
 noneMethod = record { requires = []; ensures = []; first = 0 }
 
-methods-at : (w : List ℕ) (m n j : ℕ) → j < n → getD (methodsFrom w m n) j noneMethod .first ≡ firstRowAt w (m + j)
+first-row : (w : List ℕ) (m n j : ℕ) → j < n → getD (methodsFrom w m n) j noneMethod .first ≡ firstRowAt w (m + j)
 unfolding methodAt
-methods-at w m n j l = ap (λ (x : Method). x .first) (run-get (methodAt w) m n j noneMethod l)
+first-row w m n j l = ap (λ (x : Method). x .first) (run-get (methodAt w) m n j noneMethod l)
 
 -- the block of the j-th method
 body-at :
@@ -118,6 +145,15 @@ block-begins rs i t = (go (decLt i (length rs)), rows-nested (drop i rs) [] t)
     go : Dec (i < length rs) → i < length rs
     go (yes l) = l
     go (no n) = absurd (subst (λ (r : List Row). T (rowsNest false [] r)) (drop-of-length-le rs {i = i} (omega (arith, n))) t)
+
+-- w′ is what ends the tables in w, which mean F, with n atoms
+pub record Ended (w w′ : List ℕ) (F : Program) (n : ℕ) : Type 0 where
+  pub tables : Tables w′
+  pub program : programIn w′ ≡ F
+  pub atoms : atomCount w′ ≡ n
+  pub classes : classCount w′ ≡ length (F .classes)
+  pub methods : methodCount w′ ≡ length (F .methods)
+  pub names : Kept names-at work-bytes w w′
 
 -- THE CLAIM
 module _ (t : List ℕ) (items : List Item) (read : readText t ≡ accepted items) (D : Declared) (w : List ℕ) (n : ℕ) where
@@ -225,7 +261,7 @@ module _ (t : List ℕ) (items : List Item) (read : readText t ≡ accepted item
         let z : 0 + m ≡ m = omega arith in
         let e : getD (F .methods) m noneMethod .first ≡ firstRowAt ended m =
         ap (λ (ms : List Method). getD ms m noneMethod .first) (sym (finished .holds .methods .mean))
-        ∙ (methods-at ended 0 (length (F .methods)) m l ∙ ap (firstRowAt ended) z) in
+        ∙ (first-row ended 0 (length (F .methods)) m l ∙ ap (firstRowAt ended) z) in
         let (x, y) = block-begins (F .rows) (getD (F .methods) m noneMethod .first) (body-at (F .rows) (F .methods) b m l) in
         (omega (arith, x, e, counted-all), rw (all-are, ← e) y)
 
@@ -236,12 +272,20 @@ module _ (t : List ℕ) (items : List Item) (read : readText t ≡ accepted item
         let (x, y) = block-begins (F .rows) (F .main) b in
         (omega (arith, x, finished .main, counted-all), rw (all-are, finished .main) y)
 
-    tables : D .classes ≡ length (F .classes) → D .methods ≡ length (F .methods) → Tables ended × (programIn ended ≡ program items)
-    unfolding F
-    tables c m = (
-      finished-tables D ended F n c m finished (record { targets = target-fits; blocks = blocks; main = main-fits }),
-      finished-program D ended F n finished,
-    )
+    names-kept : Kept names-at work-bytes w ended
+    unfolding linked R
+    names-kept j a b = kept j (omega arith) b ∙ targets-kept R w 0 [] (omega (arith, few)) tt j (omega arith) b
+
+    tables : D .classes ≡ length (F .classes) → D .methods ≡ length (F .methods) → Ended w ended F n
+    tables c m =
+        record {
+          tables = finished-tables D ended F n c m finished (record { targets = target-fits; blocks = blocks; main = main-fits });
+          program = finished-program D ended F n finished;
+          atoms = finished .atoms;
+          classes = finished .classes;
+          methods = finished .methods;
+          names = names-kept;
+        }
 
 -- what `finish` leaves of tables in which n atoms are written
 abbrev pub endedTables : List ℕ → Program → ℕ → List ℕ
@@ -253,6 +297,6 @@ pub read-tables :
     (t : List ℕ) (items : List Item) → readText t ≡ accepted items → (D : Declared) (w : List ℕ) (n : ℕ) →
     Holds D w (program items) n → D .classes ≡ length (program items .classes) →
     D .methods ≡ length (program items .methods) →
-    Tables (endedTables w (program items) n) × (programIn (endedTables w (program items) n) ≡ program items)
+    Ended w (endedTables w (program items) n) (program items) n
 unfolding F R linked ended
 read-tables t items e D w n h c m = tables t items e D w n h c m

@@ -138,7 +138,7 @@ module _
       λ t. rw e at (access-read (permitOf k) _ (atomPlace a + 4) l (ok .access (ltb-true k eq-atom (T-true _ t))) (ok .left) left-side) in
       rw (kind-read, left-written, right-written) (cond-same (ltb k eq-atom) to-own (λ _. refl))
 
-  atom-fits : AtomFitsAt (putAtom w a k l r) a
+  pub atom-fits : AtomFitsAt (putAtom w a k l r) a
   atom-fits = rw (kind-read, left-tag, left-written, right-written) ok
 
   -- other bytes

@@ -13,11 +13,11 @@ use Rattle.tables.specs.Decode.{run, atomPlace, rowAt, methodPlace, methodAt, c
 use Rattle.tables.specs.Tables.{AtomsFit, Declared, OperandsFit}
 use Rattle.tables.specs.Stores.{Kept, SameTables}
 use Rattle.tables.proofs.Runs.{run-kept}
-use Rattle.tables.proofs.Kept.{RowsKept, all-rows, atom-fits-kept, row-same, operands-fit-kept, first-row-kept, formulas-fit-kept, method-same, class-same, class-fits-kept}
+use Rattle.tables.proofs.Kept.{RowsKept, all-rows, one-atom, atom-fits-kept, row-same, operands-fit-kept, one-method, after-requires, first-row-kept, formulas-fit-kept, method-same, class-same, class-fits-kept}
 use Rattle.write_rows.specs.Holds.{AtomsHold, RowsHold, MethodOk, MethodsHold, ClassesHold, Holds}
 
 -- MORE ATOMS AND ROWS
-atoms-more : {n n′ : ℕ} (a k : ℕ) → n ≤ n′ → AtomsFit n a k → AtomsFit n′ a k
+pub atoms-more : {n n′ : ℕ} (a k : ℕ) → n ≤ n′ → AtomsFit n a k → AtomsFit n′ a k
 atoms-more {n} {n′} a k l r = omega arith
 
 pub operands-more : {D : Declared} {n n′ : ℕ} {r : Operands} → n ≤ n′ → OperandsFit D n r → OperandsFit D n′ r
@@ -45,7 +45,7 @@ method-more {w} {n} {n′} {R} {R′} {m} l k o =
 -- THE SAME BYTES
 module _ (w w′ : List ℕ) (n : ℕ) (KA : Kept atoms-at (atomPlace n) w w′) where
   pub atoms-hold-kept : AtomsHold w n → AtomsHold w′ n
-  atoms-hold-kept h = record { few = h .few; fit = λ a l. atom-fits-kept w w′ n KA a l (h .fit a l) }
+  atoms-hold-kept h = record { few = h .few; fit = λ a l. atom-fits-kept w w′ a (one-atom w w′ n KA a l) (h .fit a l) }
 
   pub rows-kept : (D : Declared) (rs : List Row) → RowsKept (length rs) w w′ → RowsHold D w n rs → RowsHold D w′ n rs
   rows-kept D rs KR h =
@@ -62,8 +62,8 @@ module _ (w w′ : List ℕ) (n : ℕ) (KA : Kept atoms-at (atomPlace n) w w′)
       (R M : ℕ) → Kept methods-at (methodPlace M) w w′ → (m : ℕ) → m < M → MethodOk w n R m → MethodOk w′ n R m
   method-ok-kept R M KM m l o =
       record {
-        formulas = formulas-fit-kept w w′ M KM m l n (o .formulas);
-        first = rw (first-row-kept w w′ M KM m l) (o .first);
+        formulas = formulas-fit-kept w w′ m (one-method w w′ M KM m l) n (o .formulas);
+        first = rw (first-row-kept w w′ m (after-requires w w′ m (one-method w w′ M KM m l))) (o .first);
       }
 
   pub methods-kept :
@@ -73,7 +73,7 @@ module _ (w w′ : List ℕ) (n : ℕ) (KA : Kept atoms-at (atomPlace n) w w′)
         few = h .few;
         mean =
             run-kept (methodAt w) (methodAt w′) ms (h .mean)
-            (λ m l. method-same w w′ (length ms) KM m l n (h .fit m l .formulas) KA);
+            (λ m l. method-same w w′ m (one-method w w′ (length ms) KM m l) n (h .fit m l .formulas) KA);
         fit = λ m l. method-ok-kept R (length ms) KM m l (h .fit m l);
       }
 

@@ -16,7 +16,7 @@ use Rattle.tables.specs.Decode.{byteAt, halfAt, atomsFrom, atomPlace, methodPla
 use Rattle.tables.specs.Tables.{AtomsFit, Declared}
 use Rattle.tables.specs.Stores.{Kept}
 use Rattle.tables.proofs.Runs.{run-grown, run-last, last-length, end-length}
-use Rattle.tables.proofs.Kept.{all-rows, atoms-kept, method-same}
+use Rattle.tables.proofs.Kept.{all-rows, atoms-kept, one-method, method-same}
 use Rattle.write_rows.specs.Puts.{putBytes, methodBytes, putMethod, putRequires, putEnsures}
 use Rattle.write_rows.specs.Holds.{MethodOk, Holds, Building}
 use Rattle.write_rows.proofs.Puts.{put-length, put-same, put-same-half, put-other, Clear, put-kept}
@@ -154,7 +154,7 @@ last-changed D w w′ F n m f last K size new ok h =
             few = omega (arith, same);
             mean =
                 run-last (methodAt w) (methodAt w′) (F .methods) (h .methods .mean) f m last
-                (λ k l. method-same w w′ m KM k l n (h .methods .fit k (omega arith) .formulas) KA) new;
+                (λ k l. method-same w w′ k (one-method w w′ m KM k l) n (h .methods .fit k (omega arith) .formulas) KA) new;
             fit = λ i l.
                 below-more (λ (k : ℕ). MethodOk w′ n (length (F .rows)) k) m
                 (λ k l. method-ok-kept w w′ n KA (length (F .rows)) m KM k l (h .methods .fit k (omega arith))) ok i (omega (arith, same));

@@ -7,6 +7,7 @@ syntax case match
 syntax match stationName /\t\zs[A-Za-z][A-Za-z0-9]*\ze\([.\t]\|$\)/
 syntax match stationWord /^\(class\|field\|method\|requires\|ensures\|main\|var\|set\|let\|add\|sub\|new\|call\|open\|shut\|return\|assert\|release\|if\|else\|join\|loop\|again\|end\)\ze\(\t\|$\)/
 syntax match stationAtom /\t\zs\(acc\|read\|chain\|eq\|ne\)\ze\t/
+syntax match stationAtom /\(^requires\t\)\@<=\*$/
 syntax match stationType /\t\zsint\ze\(\t\|$\)/
 syntax match stationReserved /\t\zs\(null\ze\(\t\|$\)\|\(this\|result\)\ze\([.\t]\|$\)\)/
 syntax match stationNumber /\t\zs\(0\|-\?[1-9][0-9]*\)\ze\(\t\|$\)/

@@ -2,7 +2,7 @@
 
 use crate::progress::Progress;
 use explain::Answers;
-use nuyardi::{Bound, NoBound, Outcome, Refusal, Station};
+use nuyardi::{Bound, Filled, NoBound, NotFilled, Outcome, Refusal, Station};
 
 /// The library's answers, over areas that are kept from call to call.
 #[derive(Default)]
@@ -30,5 +30,9 @@ impl Answers for Library {
 
     fn bound(&mut self, text: &[u8]) -> Result<Bound, NoBound> {
         self.0.bound(text)
+    }
+
+    fn fill<'t>(&mut self, text: &'t [u8]) -> Result<Filled<'t>, NotFilled> {
+        self.0.fill(text)
     }
 }

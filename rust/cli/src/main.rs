@@ -5,6 +5,7 @@ mod args;
 mod authority;
 mod commands;
 mod files;
+mod filling;
 mod fixing;
 mod library;
 mod looking;
@@ -43,6 +44,7 @@ fn dispatch(session: &mut Session) -> Status {
         Command::Report => authority::report(session),
         Command::Fmt => session.each_script(commands::fmt_one),
         Command::Fix => session.each_script(fixing::fix_one),
+        Command::Fill => session.each(filling::fill_one),
         Command::Explain => commands::explain(session),
         Command::Completions => commands::completions(session),
         Command::Lsp => lsp::serve(),

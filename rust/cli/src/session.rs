@@ -13,9 +13,9 @@ use std::process::ExitCode;
 /// How a call of the command ends; the worse, the higher.
 #[derive(Clone, Copy, Debug, PartialEq, Eq, PartialOrd, Ord)]
 pub enum Status {
-    /// Accepted, bounded or finished.
+    /// Accepted, bounded, filled in or finished.
     Done = 0,
-    /// Refused, without a bound or stopped.
+    /// Refused, without a bound, not filled in or stopped.
     Refused = 1,
     /// Wrong use, or a file that can't be read.
     Failed = 2,

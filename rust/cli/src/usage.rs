@@ -13,9 +13,9 @@ trial, and --trial, also run a text that check refuses with one of the numbers
 10 to 14, after saying so. run tests every permission; run --lean says the same
 without these tests, which an accepted script never fails.
 
-Exit status: 0 accepted, bounded or finished; 1 refused, without a bound or
-stopped; 2 wrong use, or a file that can't be read or written (the other files
-are still done).
+Exit status: 0 accepted, bounded, filled in or finished; 1 refused, without a
+bound, not filled in or stopped; 2 wrong use, or a file that can't be read or
+written (the other files are still done).
 ";
 
 fn shown() -> impl Iterator<Item = &'static CommandSpec> {

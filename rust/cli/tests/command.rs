@@ -39,6 +39,11 @@ fn statuses() {
         (&["draw", "examples/refused-04.script"], 1),
         (&["draw", "examples/lost.script"], 1),
         (&["draw", "--trial", "examples/lost.script"], 0),
+        (&["fill", "examples/fill.script"], 0),
+        (&["fill", "examples/refused-17.script"], 1),
+        (&["fill", "examples/tag.script"], 1),
+        (&["fill", "no-such-file"], 2),
+        (&["fill", "examples/fill.script", "examples/fill.script"], 2),
         (&["explain", "12"], 0),
         (&["fmt", "-"], 0),
         (&["tabs", "-"], 0),
@@ -62,7 +67,7 @@ fn wrong_use() {
         &["run"],
         &["fmt"],
         &["explain"],
-        &["explain", "17"],
+        &["explain", "20"],
         &["explain", "many"],
         &["run", "a", "b"],
         &["trial"],
@@ -405,6 +410,7 @@ fn examples_of_explanations() {
         let steps = if known.number == 21 { 1 } else { 1_000 };
         let number = match known.number {
             15 | 16 => nuyardi::bound(example).map_or_else(|none| none.number(), |_| 0),
+            17 | 18 => nuyardi::fill(example).map_or_else(|none| none.number(), |_| 0),
             24..=26 => nuyardi::trial(example, steps).number(),
             _ => match nuyardi::run(example, steps) {
                 Ok(outcome) => outcome.number(),

@@ -45,6 +45,7 @@ fn colour(place: usize, field: &str) -> Colour {
     match (place, first) {
         _ if field.contains(' ') => Colour::Bad,
         (0, _) => Colour::Word,
+        (1, "*") => Colour::Atom,
         (_, "acc" | "read" | "chain" | "eq" | "ne") => Colour::Atom,
         (_, "int") => Colour::Type,
         (_, "null" | "this" | "result") => Colour::Reserved,

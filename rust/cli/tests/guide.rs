@@ -203,7 +203,7 @@ fn mends() {
         }
         String::new()
     });
-    for number in 3..=16 {
+    for number in 3..=18 {
         assert!(
             mends.contains(&format!("examples/refused-{number:02}.script")),
             "{number}"
@@ -235,6 +235,8 @@ fn json_fields() {
         "station draw --json examples/tag.script",
         "station fmt --json examples/tag.script",
         "station fix --json examples/lost.script",
+        "station fill --json examples/fill.script",
+        "station fill --json examples/refused-17.script",
         "station explain --json 12",
         "station check --json no-such-file",
     ];
@@ -288,6 +290,7 @@ fn limits() {
         FIELDS,
         FRAMES,
         BOUND,
+        FILLED,
     ];
     assert_eq!(numbers, limits);
     for (said, size) in [

@@ -215,7 +215,10 @@ fn anything() {
         b"main\nend\nend\n",
         b"\"\\\n",
     ] {
-        for command in ["check", "run", "trial", "bound", "trace", "known", "draw"] {
+        let commands = [
+            "check", "run", "trial", "bound", "trace", "known", "draw", "fill",
+        ];
+        for command in commands {
             let object = object(&[command, "--json", "-"], input);
             assert!(
                 matches!(object.get("number"), Some(Json::Int(_))),

@@ -230,7 +230,8 @@ fn completion_of_names_in_scope() {
     let text = "class\tCard\nfield\tCard\tprev\nfield\tint\ttag\nmethod\tint\tmark\tint\tk\nrequires\t\nensures\nend\n\
                 main\nvar\tCard\tc\nset\tc\t\ncall\tc\tc\t\nassert\teq\tc.\n\nnew\tc\t\n";
     client.open(text);
-    assert_eq!(client.labels(4, 9), ["acc", "read", "chain", "eq", "ne"]);
+    let requires = ["acc", "read", "chain", "eq", "ne", "*"];
+    assert_eq!(client.labels(4, 9), requires);
     assert_eq!(client.labels(9, 6), ["prev", "tag"]);
     assert_eq!(client.labels(10, 9), ["mark"]);
     assert_eq!(client.labels(11, 12), ["c.prev", "c.tag"]);
@@ -253,6 +254,60 @@ fn completion_of_names_in_scope() {
     assert_eq!(client.labels(4, 5), ["s"]);
     assert_eq!(client.labels(4, 9), ["p"]);
     assert_eq!(client.labels(5, 7), ["p"]);
+    client.end();
+}
+
+/// The titles of the fixes that are offered at a line, and their new texts.
+fn offered(client: &mut Client, line: u32) -> Vec<(String, String)> {
+    let position = |column: u32| Json::object().with("line", line).with("character", column);
+    let range = Json::object()
+        .with("start", position(0))
+        .with("end", position(0));
+    let params = Json::object()
+        .with("textDocument", Json::object().with("uri", URI))
+        .with("range", range);
+    let Json::List(found) = client.ask("textDocument/codeAction", params) else {
+        panic!("no list");
+    };
+    let told = |action: &Json| {
+        let title = action.get("title").and_then(Json::text).expect("a title");
+        let Some(Json::List(edits)) = action.at(&["edit", "changes", URI]) else {
+            panic!("no edits: {action}");
+        };
+        let new = |edit: &Json| edit.get("newText").and_then(Json::text).map(str::to_string);
+        (title.to_string(), edits.iter().filter_map(new).collect())
+    };
+    found.iter().map(told).collect()
+}
+
+/// A `requires *`, and a permission that is not shown in a method: what fill gives is
+/// offered, once.
+#[test]
+fn requires_to_be_filled_in() {
+    let mut client = Client::start();
+    client.open(&example("fill.script"));
+    let line = "requires\tacc\tthis\tprev\tacc\tthis\ttag\tacc\told\tseen\n";
+    let shown = line.trim_end().replace('\t', " ");
+    let title = format!("fill in line 6: `{shown}`; the script is then accepted");
+    assert_eq!(offered(&mut client, 5), [(title.clone(), line.to_string())]);
+    assert_eq!(offered(&mut client, 2), []);
+    // Three permissions are missing, and one step gives one of them.
+    client.change(&example("fill.script").replace("requires\t*", "requires\tacc\told\tseen"));
+    let found = offered(&mut client, 13);
+    assert!(found.contains(&(title, line.to_string())), "{found:?}");
+    assert!(found.len() > 1, "{found:?}");
+    // The one step is what fill gives.
+    client.change(&example("refused-12.script"));
+    let found = offered(&mut client, 5);
+    assert_eq!(found.len(), 1, "{found:?}");
+    assert_eq!(found[0].1, "requires\tacc\tthis\tn\n");
+    // Main has no `requires`.
+    client.change(&example("lost.script"));
+    let found = offered(&mut client, 14);
+    assert!(
+        !found.iter().any(|(title, _)| title.contains("fill in")),
+        "{found:?}"
+    );
     client.end();
 }
 

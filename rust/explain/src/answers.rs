@@ -1,7 +1,7 @@
 //! Who answers for a text: the proved library, or the model.
 
-use nuyardi::limits::{BOUNDS_BYTES, RESULTS_BYTES, WORK_BYTES};
-use nuyardi::{Bound, NoBound, Outcome, Refusal, Returned};
+use nuyardi::limits::{BOUNDS_BYTES, PLACES_BYTES, RESULTS_BYTES, WORK_BYTES};
+use nuyardi::{Bound, Filled, NoBound, NotFilled, Outcome, Refusal, Returned};
 
 /// Who gives the numbers, lines, steps and values that are explained.
 pub trait Answers {
@@ -19,6 +19,9 @@ pub trait Answers {
 
     /// The most that a run can take.
     fn bound(&mut self, text: &[u8]) -> Result<Bound, NoBound>;
+
+    /// The permissions that a line `requires *` stands for.
+    fn fill<'t>(&mut self, text: &'t [u8]) -> Result<Filled<'t>, NotFilled>;
 }
 
 #[cfg(feature = "library")]
@@ -41,6 +44,10 @@ impl Answers for nuyardi::Station {
 
     fn bound(&mut self, text: &[u8]) -> Result<Bound, NoBound> {
         nuyardi::Station::bound(self, text)
+    }
+
+    fn fill<'t>(&mut self, text: &'t [u8]) -> Result<Filled<'t>, NotFilled> {
+        nuyardi::Station::fill(self, text)
     }
 }
 
@@ -85,5 +92,12 @@ impl Answers for Model {
         let returned = Returned::of(model::bound_call(text, &mut work, &mut bounds));
         let bound = returned.bound(&bounds);
         bound.expect("a number of the table")
+    }
+
+    fn fill<'t>(&mut self, text: &'t [u8]) -> Result<Filled<'t>, NotFilled> {
+        let (mut work, mut places) = (vec![0; WORK_BYTES], [0; PLACES_BYTES]);
+        let returned = Returned::of(model::fill_call(text, &mut work, &mut places));
+        let filled = returned.filled(text, &places);
+        filled.expect("a number of the table")
     }
 }

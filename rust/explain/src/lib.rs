@@ -1,7 +1,8 @@
 //! What is to be said of a catalogue script beyond numbers and lines: the cause of
 //! a refusal or a stop and a fix that was tried, what the checker knows at a line, each
 //! step of a run, the cards as a table or a picture, the calls that a bound comes
-//! from, and a text in its form; for people, and as JSON.
+//! from, what a `requires *` stands for, and a text in its form; for people, and as
+//! JSON.
 //!
 //! ```
 //! use explain::{Asked, Model, Report};
@@ -25,6 +26,7 @@ pub mod cards;
 pub mod cause;
 pub mod chains;
 pub mod draw;
+pub mod filling;
 pub mod fix;
 pub mod fmt;
 #[cfg(test)]
@@ -44,5 +46,6 @@ pub mod trace;
 pub use answers::{Answers, Model};
 pub use bound::Bounded;
 pub use cause::Cause;
+pub use filling::Filling;
 pub use json::Json;
 pub use report::{Asked, Report};

@@ -181,7 +181,10 @@ pub fn rows(out: &mut String, heading: &str, words: &[String]) {
 fn formats(number: u32) -> Option<&'static str> {
     match Kind::of(number) {
         Some(Kind::Byte) => Some("`station fmt --write FILE` does all three"),
-        Some(Kind::Form) => Some("`station fmt --write FILE` fixes tabs too many"),
+        Some(Kind::Form) => Some(
+            "`station fmt --write FILE` fixes tabs too many, and `station fill --write FILE` \
+             fills in a `requires *`",
+        ),
         _ => None,
     }
 }

@@ -24,7 +24,9 @@ pub mod rounds;
 pub mod routes;
 mod shares;
 mod skeleton;
+pub mod stars;
 pub mod walks;
+mod wanted;
 mod writer;
 
 // The parts of the model by which texts are written.
@@ -95,6 +97,11 @@ pub fn text(seed: u64) -> Vec<u8> {
 /// An accepted program of a seed.
 pub fn accepted(seed: u64) -> Vec<u8> {
     program::accepted(&mut Rng::new(seed))
+}
+
+/// A text for fill, of a seed: most have a `requires` to be filled in (W11).
+pub fn starred(seed: u64) -> Vec<u8> {
+    stars::starred(&mut Rng::new(seed))
 }
 
 /// How many steps to allow: few, the program's 1,000, or many.

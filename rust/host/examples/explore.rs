@@ -15,7 +15,7 @@ use nuyardi::Returned;
 use std::collections::HashSet;
 use std::path::Path;
 
-/// What a text reached: the answers of check, trial and bound, with the kind of
+/// What a text reached: the answers of check, trial, bound and fill, with the kind of
 /// line that they name and how far down the text it stands.
 #[derive(PartialEq, Eq, Hash)]
 struct Reached {
@@ -25,6 +25,8 @@ struct Reached {
     trial_line: Vec<u8>,
     bound: u32,
     bound_line: Vec<u8>,
+    fill: u32,
+    fill_line: Vec<u8>,
     depth: u32,
 }
 
@@ -39,17 +41,21 @@ fn kind_of(text: &[u8], line: u32) -> Vec<u8> {
     fields.take(2).filter(known).flatten().copied().collect()
 }
 
-fn reached(text: &[u8], [check, _, trial, bound, _]: Answers) -> Reached {
-    let [check, trial, bound] = [check, trial, bound].map(Returned::of);
-    let [check_line, trial_line, bound_line] = [check, trial, bound].map(Returned::line);
+fn reached(text: &[u8], [check, _, trial, bound, _, fill]: Answers) -> Reached {
+    let answers = [check, trial, bound, fill].map(Returned::of);
+    let lines = answers.map(Returned::line);
+    let [check_line, trial_line, bound_line, fill_line] = lines;
+    let [check, trial, bound, fill] = answers.map(Returned::number);
     Reached {
-        check: check.number(),
+        check,
         check_line: kind_of(text, check_line),
-        trial: trial.number(),
+        trial,
         trial_line: kind_of(text, trial_line),
-        bound: bound.number(),
+        bound,
         bound_line: kind_of(text, bound_line),
-        depth: (check_line.max(trial_line).max(bound_line) + 1).ilog2(),
+        fill,
+        fill_line: kind_of(text, fill_line),
+        depth: (lines.into_iter().fold(0, u32::max) + 1).ilog2(),
     }
 }
 
@@ -65,6 +71,7 @@ fn main() {
     for at in 0..texts {
         let text = match rng.below(20) {
             0 => gen::text(rng.bits()),
+            1 => gen::starred(rng.bits()),
             _ if kept.is_empty() => gen::text(rng.bits()),
             // One of those kept last, more often than not.
             choice => {

@@ -1,8 +1,8 @@
 //! The C functions of libnuyardi.a, declared once, and over Rust slices.
 //!
 //! Most callers want [`crate::check`], [`crate::run`], [`crate::trial`],
-//! [`crate::lean`] and [`crate::bound`]. The functions here are for those who lend
-//! areas of their own and want what comes back as it is.
+//! [`crate::lean`], [`crate::bound`] and [`crate::fill`]. The functions here are for
+//! those who lend areas of their own and want what comes back as it is.
 
 use crate::Returned;
 
@@ -51,11 +51,22 @@ pub mod raw {
             bounds: *mut u8,
             bounds_len: usize,
         ) -> u32;
+        pub fn station_fill(
+            text: *const u8,
+            text_len: usize,
+            work: *mut u8,
+            work_len: usize,
+            places: *mut u8,
+            places_len: usize,
+        ) -> u32;
     }
 
     /// A function that runs a text.
     pub type Runs =
         unsafe extern "C" fn(*const u8, usize, *mut u8, usize, u32, *mut u8, usize) -> u32;
+
+    /// A function that tells something of a text, and runs nothing.
+    pub type Tells = unsafe extern "C" fn(*const u8, usize, *mut u8, usize, *mut u8, usize) -> u32;
 }
 
 /// Checks the text over a lent work area of [`WORK_BYTES`](crate::limits::WORK_BYTES)
@@ -159,15 +170,39 @@ fn over(call: raw::Runs, text: &[u8], work: &mut [u8], steps: u32, results: &mut
 /// assert_eq!(bounds, [0; nuyardi::limits::BOUNDS_BYTES]);
 /// ```
 pub fn bound(text: &[u8], work: &mut [u8], bounds: &mut [u8]) -> Returned {
-    // SAFETY: as in `run`.
+    told(raw::station_bound, text, work, bounds)
+}
+
+/// The permissions that a `requires *` stands for, in an area of
+/// [`PLACES_BYTES`](crate::limits::PLACES_BYTES) bytes: the places of the fields, those
+/// of `this` first and then those of the parameter, from 1, rising, then zeros; zeros
+/// where there are none.
+///
+/// ```
+/// let mut work = vec![0; nuyardi::limits::WORK_BYTES];
+/// let mut places = [0xa5; nuyardi::limits::PLACES_BYTES];
+/// let text = b"class\tS\nfield\tint\ta\nfield\tint\tb\nmethod\tint\tm\tint\tk\n\
+///     requires\t*\nensures\nset\tthis\tb\tk\nend\nmain\nend\n";
+/// assert_eq!(nuyardi::calls::fill(text, &mut work, &mut places).number(), 0);
+/// assert_eq!(places, [2, 0, 0, 0]);
+/// let returned = nuyardi::calls::fill(b"main\nend\n", &mut work, &mut places);
+/// assert_eq!((returned.number(), returned.line()), (18, 0));
+/// assert_eq!(places, [0; nuyardi::limits::PLACES_BYTES]);
+/// ```
+pub fn fill(text: &[u8], work: &mut [u8], places: &mut [u8]) -> Returned {
+    told(raw::station_fill, text, work, places)
+}
+
+fn told(call: raw::Tells, text: &[u8], work: &mut [u8], area: &mut [u8]) -> Returned {
+    // SAFETY: as in `over`.
     Returned::of(unsafe {
-        raw::station_bound(
+        call(
             text.as_ptr(),
             text.len(),
             work.as_mut_ptr(),
             work.len(),
-            bounds.as_mut_ptr(),
-            bounds.len(),
+            area.as_mut_ptr(),
+            area.len(),
         )
     })
 }

@@ -61,7 +61,8 @@ pub const EXPLANATIONS: &[Explanation] = &[
         number: 0,
         title: "accepted, or finished",
         meaning: "Check accepts the text: its runs never lack a permission, follow null or meet \
-                  a false formula. A run has done main's `end`. Bound gives the most steps.",
+                  a false formula. A run has done main's `end`. Bound gives the most steps, and \
+                  fill the permissions.",
         mend: "there is nothing to mend",
         example: None,
     },
@@ -70,7 +71,8 @@ pub const EXPLANATIONS: &[Explanation] = &[
         title: "a lent area of wrong length",
         meaning: "The program that calls the library lent it an area of another length than it \
                   takes. No script can cause this.",
-        mend: "lend 65,536 bytes to work in, 52 bytes for results and 8 bytes for bounds",
+        mend: "lend 65,536 bytes to work in, 52 bytes for results, 8 bytes for bounds and 4 bytes \
+               for places",
         example: None,
     },
     Explanation {
@@ -97,9 +99,10 @@ pub const EXPLANATIONS: &[Explanation] = &[
                   `else` and `join`, every `loop` its `again`, `return` stands in methods only and \
                   only `else`, `join`, `again` or `end` follows it, nothing follows main's `end`. \
                   A formula has at most 8 atoms, in a `loop` after its condition; a name has at most \
-                  12 letters and digits.",
+                  12 letters and digits. A line `requires *` is yet to be filled in: only fill takes \
+                  it.",
         mend: "compare the line with its form in the guide; one tab parts two fields, and none \
-               begins or ends a line",
+               begins or ends a line; fill finds what a `requires *` stands for",
         example: example!("refused-04"),
     },
     Explanation {
@@ -184,7 +187,8 @@ pub const EXPLANATIONS: &[Explanation] = &[
                invariant of a `loop`, which is shown before the first round and at each `again`; a \
                formula with `acc x f` twice needs two objects; a half that a method was handed by \
                `read` comes back by a `read` in its `ensures`; a chain that was opened is one again \
-               after `shut`, the last card's first, and a ring of cards never is",
+               after `shut`, the last card's first, and a ring of cards never is; what a method's \
+               `requires` lacks, fill finds for a `requires *`",
         example: example!("refused-12"),
     },
     Explanation {
@@ -227,6 +231,28 @@ pub const EXPLANATIONS: &[Explanation] = &[
         mend: "run it with as many steps as it may take, and number 21 stops it there; or call less: \
                methods that each call the next one twice double the bound every time",
         example: example!("refused-16"),
+    },
+    Explanation {
+        number: 17,
+        title: "no permissions with which a `requires *` is accepted",
+        meaning: "With none of the sets of at most 4 permissions `acc x f`, to the fields of `this` \
+                  and of the parameter, in the place of the star does check accept the text. The \
+                  fault may also stand elsewhere, in a line that the star has nothing to do with. \
+                  Only fill refuses so; check refuses the star itself, with number 4.",
+        mend: "write `requires` by hand and let check say which line is refused: it may need a fact, \
+               a `read` or a `chain`, a permission to a further object, more than 4 permissions, or \
+               an `ensures` that gives back what the caller lacks",
+        example: example!("refused-17"),
+    },
+    Explanation {
+        number: 18,
+        title: "no `requires *` to be filled in, or a second one",
+        meaning: "One method of the text has a line `requires *`, `requires` and `*` parted by a tab. \
+                  The line given is that of the second star, 0 if there is none. Only fill refuses \
+                  so; check refuses a star with number 4.",
+        mend: "put the star in the place of all atoms of the one `requires` line that is to be filled \
+               in, and write the others by hand",
+        example: example!("refused-18"),
     },
     Explanation {
         number: 21,

@@ -35,6 +35,7 @@ mod bound;
 #[allow(missing_docs)]
 pub mod calls;
 mod explain;
+mod filled;
 pub mod limits;
 mod numbers;
 mod outcome;
@@ -45,7 +46,8 @@ mod station;
 
 pub use bound::{Bound, NoBound};
 pub use explain::{explain, Explanation, EXPLANATIONS};
-pub use numbers::{AcceptedStop, Excess, Kind, Stop};
+pub use filled::{Filled, NotFilled, Permission};
+pub use numbers::{AcceptedStop, Excess, Kind, Lack, Stop};
 pub use outcome::{AcceptedEnding, Ending, Outcome, Value, Variable};
 pub use refusal::Refusal;
 pub use returned::Returned;
@@ -113,4 +115,17 @@ pub fn trial(text: &[u8], steps: u32) -> Outcome<'_> {
 #[cfg(feature = "library")]
 pub fn bound(text: &[u8]) -> Result<Bound, NoBound> {
     Station::new().bound(text)
+}
+
+/// The permissions that a line `requires *` stands for; see [`Station::fill`].
+///
+/// ```
+/// let text = b"class\tS\nfield\tint\tn\nmethod\tint\tm\tint\tk\nrequires\t*\n\
+///     ensures\nset\tthis\tn\tk\nend\nmain\nend\n";
+/// assert_eq!(nuyardi::fill(text)?.to_string(), "requires\tacc\tthis\tn");
+/// # Ok::<(), nuyardi::NotFilled>(())
+/// ```
+#[cfg(feature = "library")]
+pub fn fill(text: &[u8]) -> Result<Filled<'_>, NotFilled> {
+    Station::new().fill(text)
 }

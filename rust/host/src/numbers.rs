@@ -71,6 +71,18 @@ numbered! {
 }
 
 numbered! {
+    /// The reasons for which no set is given for a `requires *`, of a text that the
+    /// reader takes.
+    Lack {
+        /// 17: with no set of at most [`FILLED`](crate::limits::FILLED) permissions is
+        /// the text accepted.
+        Unfilled = 17,
+        /// 18: there is no `requires *`, or a second one.
+        Stars = 18,
+    }
+}
+
+numbered! {
     /// Why the machine stopped before main's `end` was done.
     Stop {
         /// 21: the allowed steps are taken.

@@ -1,7 +1,7 @@
 //! What a call returns, taken apart.
 
-use crate::limits::{BOUNDS_BYTES, RESULTS_BYTES};
-use crate::{Bound, Ending, Kind, NoBound, Outcome, Refusal};
+use crate::limits::{BOUNDS_BYTES, PLACES_BYTES, RESULTS_BYTES};
+use crate::{Bound, Ending, Filled, Kind, NoBound, NotFilled, Outcome, Refusal};
 use core::fmt;
 
 /// What a call returns: number × 65,536 + line.
@@ -71,6 +71,23 @@ impl Returned {
     /// ```
     pub fn bound(self, bounds: &[u8; BOUNDS_BYTES]) -> Option<Result<Bound, NoBound>> {
         Bound::of(self, bounds)
+    }
+
+    /// The `requires` line that is filled in, with what the call left in the places
+    /// area; none for a number that fill does not return.
+    ///
+    /// ```
+    /// let text = b"class\tS\nfield\tint\tn\nmethod\tint\tm\tint\tk\nrequires\t*\n\
+    ///     ensures\nset\tthis\tn\tk\nend\nmain\nend\n";
+    /// let filled = nuyardi::Returned::of(0).filled(text, &[1, 0, 0, 0]).unwrap().unwrap();
+    /// assert_eq!(filled.to_string(), "requires\tacc\tthis\tn");
+    /// ```
+    pub fn filled<'t>(
+        self,
+        text: &'t [u8],
+        places: &[u8; PLACES_BYTES],
+    ) -> Option<Result<Filled<'t>, NotFilled>> {
+        Filled::of(self, text, places)
     }
 }
 

@@ -1,9 +1,9 @@
 //! The calls with areas of their own.
 
-use crate::limits::{BOUNDS_BYTES, RESULTS_BYTES, WORK_BYTES};
+use crate::limits::{BOUNDS_BYTES, PLACES_BYTES, RESULTS_BYTES, WORK_BYTES};
 use crate::numbers::known;
 use crate::outcome::{AcceptedEnding, Ending};
-use crate::{calls, Bound, NoBound, Outcome, Refusal, Returned};
+use crate::{calls, Bound, Filled, NoBound, NotFilled, Outcome, Refusal, Returned};
 use core::borrow::BorrowMut;
 use core::fmt;
 
@@ -206,6 +206,37 @@ impl<W: BorrowMut<[u8; WORK_BYTES]>> Station<W> {
         let mut bounds = [0; BOUNDS_BYTES];
         let returned = calls::bound(text, self.work.borrow_mut(), &mut bounds);
         known(returned.bound(&bounds), returned.number())
+    }
+
+    /// The first set of at most [`FILLED`](crate::limits::FILLED) permissions that may
+    /// take the place of the star in a line `requires *`: with them check accepts the
+    /// text, its length apart. Fewer permissions come first, then the fields of `this`
+    /// in the order of their lines, then those of the parameter. One method has such a
+    /// line, and all else in the text is complete.
+    ///
+    /// ```
+    /// use nuyardi::{Lack, NotFilled};
+    /// let mut station = nuyardi::Station::new();
+    /// let text = b"class\tS\nfield\tint\ta\nfield\tint\tb\nmethod\tint\tm\tS\ts\n\
+    ///     requires\t*\nensures\nvar\tint\tr\nlet\tr\ts.b\nset\tthis\ta\tr\nend\nmain\nend\n";
+    /// let filled = station.fill(text)?;
+    /// assert_eq!(filled.places(), [1, 4]);
+    /// assert_eq!(filled.to_string(), "requires\tacc\tthis\ta\tacc\ts\tb");
+    ///
+    /// let lack = Lack::Stars;
+    /// assert_eq!(station.fill(b"main\nend\n"), Err(NotFilled::Read { lack, line: 0 }));
+    /// # Ok::<(), NotFilled>(())
+    /// ```
+    ///
+    /// # Errors
+    ///
+    /// A text is refused with the numbers 2 to 9 as by [`Station::check`], the star's
+    /// line taken as a formula without atoms. Then there is no set if there is no star,
+    /// or a second one, or if none is accepted, be it for a fault elsewhere in the text.
+    pub fn fill<'t>(&mut self, text: &'t [u8]) -> Result<Filled<'t>, NotFilled> {
+        let mut places = [0; PLACES_BYTES];
+        let returned = calls::fill(text, self.work.borrow_mut(), &mut places);
+        known(returned.filled(text, &places), returned.number())
     }
 }
 

@@ -1,20 +1,21 @@
 //! The Rust API beside the model: kinds, lines, main's variables by name.
 
 use generator::{self as gen, rng::Rng};
-use model::names::{Declared, Type};
-use nuyardi::{AcceptedEnding, AcceptedStop, Ending, Excess, Kind, NoBound, Outcome, Station};
-use nuyardi::{Stop, Value};
+use model::names::{Atom, Declared, Type, THIS};
+use nuyardi::{AcceptedEnding, AcceptedStop, Ending, Excess, Filled, Kind, Lack, NoBound};
+use nuyardi::{NotFilled, Outcome, Station, Stop, Value};
 use std::collections::BTreeSet;
 
 /// Every number that a call returns is explained: 0, 1, and those of the kinds,
-/// excesses and stops, each of which is found by its number.
+/// excesses, lacks and stops, each of which is found by its number.
 #[test]
 fn numbers_and_kinds() {
     let kinds = Kind::ALL.iter().map(|kind| kind.number());
     let excesses = Excess::ALL.iter().map(|excess| excess.number());
+    let lacks = Lack::ALL.iter().map(|lack| lack.number());
     let stops = Stop::ALL.iter().map(|stop| stop.number());
     let texts = [0, 1].into_iter().chain(kinds).chain(excesses);
-    let returned: Vec<u32> = texts.chain(stops).collect();
+    let returned: Vec<u32> = texts.chain(lacks).chain(stops).collect();
     assert!(returned.windows(2).all(|pair| pair[0] < pair[1]));
     let explained: Vec<u32> = nuyardi::EXPLANATIONS
         .iter()
@@ -24,9 +25,10 @@ fn numbers_and_kinds() {
     for number in (0..100).chain([u32::MAX]) {
         let kind = Kind::of(number).map(Kind::number);
         let excess = Excess::of(number).map(Excess::number);
+        let lack = Lack::of(number).map(Lack::number);
         let stop = Stop::of(number).map(Stop::number);
         assert_eq!(
-            kind.or(excess).or(stop),
+            kind.or(excess).or(lack).or(stop),
             returned[2..].contains(&number).then_some(number)
         );
     }
@@ -66,7 +68,7 @@ fn sizes_in_words() {
             );
         }
     };
-    said(1, &[WORK_BYTES, RESULTS_BYTES, BOUNDS_BYTES]);
+    said(1, &[WORK_BYTES, RESULTS_BYTES, BOUNDS_BYTES, PLACES_BYTES]);
     said(2, &[TEXT_BYTES]);
     said(4, &[ATOMS, NAME_BYTES]);
     said(
@@ -75,6 +77,7 @@ fn sizes_in_words() {
     );
     said(14, &[PERMISSIONS, FACTS]);
     said(16, &[BOUND]);
+    said(17, &[FILLED]);
     said(22, &[OBJECTS, FIELDS]);
     said(23, &[FRAMES, FRAMES - 1]);
 }
@@ -214,6 +217,96 @@ fn bounds_in_words() {
     assert_eq!(said(worked), "at most 9 steps, 2 frames");
     let looped = said(b"main\nloop\teq\t1\t2\nagain\nend\n");
     assert!(looped.starts_with("line 2: a loop, or a call"), "{looped}");
+}
+
+/// The places of a method's `requires`, as the model reads it: by the variable and the
+/// field's own place in its class.
+fn places_read(text: &[u8], star: u32) -> Vec<u8> {
+    let program = model::read(text).expect("a text that the reader takes");
+    let lines = text.split(|&byte| byte == b'\n').take(star as usize);
+    let methods = lines.filter(|line| line.starts_with(b"method\t")).count();
+    let block = &program.blocks[methods - 1];
+    let class = program.class(block.header.expect("a method").class);
+    let own = program.classes[class.expect("a class")].fields.len();
+    let place = |atom: &Atom| match atom {
+        Atom::Permission(_, path) if path.var == THIS => path.slot + 1,
+        Atom::Permission(_, path) => own + path.slot + 1,
+        other => panic!("no permission: {other:?}"),
+    };
+    let places = block.requires.iter().map(place);
+    places.map(|place| place as u8).collect()
+}
+
+/// A text that is filled in: accepted, with one line changed, whose permissions have
+/// the places that are given.
+fn is_filled_in(station: &mut Station, text: &[u8], filled: &Filled) {
+    let fixed = filled.text();
+    if fixed.len() <= nuyardi::limits::TEXT_BYTES {
+        assert!(station.check(&fixed).is_ok(), "{}", text.escape_ascii());
+        assert_eq!(places_read(&fixed, filled.line()), filled.places());
+    }
+    let lines = |text: &[u8]| -> Vec<Vec<u8>> {
+        let lines = text.split(|&byte| byte == b'\n');
+        lines.map(<[u8]>::to_vec).collect()
+    };
+    let (mut before, after) = (lines(text), lines(&fixed));
+    let star = &mut before[filled.line() as usize - 1];
+    assert_eq!(star, b"requires\t*");
+    *star = filled.to_string().into_bytes();
+    assert_eq!(before, after);
+    assert_eq!(filled.permissions().count(), filled.places().len());
+}
+
+/// Texts with a `requires` line to be filled in.
+#[test]
+fn generated_fills() {
+    let mut station = Station::new();
+    let (mut lacks, mut sizes) = (BTreeSet::new(), BTreeSet::new());
+    for seed in 1_200_000..1_202_000 {
+        let text = gen::starred(seed);
+        let model = model::fill(&text);
+        let found = station.fill(&text);
+        assert_eq!(found, nuyardi::fill(&text));
+        match found {
+            Ok(filled) => {
+                let mut places = model.places.to_vec();
+                places.retain(|&place| place != 0);
+                assert_eq!((model.number, places.as_slice()), (0, filled.places()));
+                is_filled_in(&mut station, &text, &filled);
+                sizes.insert(places.len());
+            }
+            Err(none) => {
+                assert_eq!((none.number(), none.line()), (model.number, model.line));
+                match none {
+                    NotFilled::Refused(refusal) => assert!(refusal.number() < 10),
+                    NotFilled::Read { lack, .. } => {
+                        lacks.insert(lack);
+                    }
+                    other => panic!("a reason that the model does not know: {other:?}"),
+                }
+            }
+        }
+    }
+    assert!(lacks.iter().eq(Lack::ALL), "{lacks:?}");
+    assert!(sizes.into_iter().eq(0..=nuyardi::limits::FILLED));
+}
+
+/// A set in words, and one that there is not.
+#[test]
+fn fills_in_words() {
+    let said = |text: &[u8]| match nuyardi::fill(text) {
+        Ok(filled) => format!("{filled:?} {filled}").replace('\t', " "),
+        Err(none) => none.to_string(),
+    };
+    assert_eq!(
+        said(include_bytes!("../../../examples/fill.script")),
+        "Filled { line: 6, places: [1, 2, 6], .. } requires acc this prev acc this tag acc old seen"
+    );
+    let starts = "line 4: no permissions with which a `requires *` is accepted (number 17); ";
+    let none = said(include_bytes!("../../../examples/refused-17.script"));
+    assert!(none.starts_with(starts), "{none}");
+    assert!(said(b"main\nend\n").starts_with("no `requires *` to be filled in, or a second one"));
+    assert!(said(b"main\nend").starts_with("line 2: a byte that may not stand in a text"));
 }
 
 /// A refusal is an error that can be passed on.

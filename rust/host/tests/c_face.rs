@@ -6,7 +6,7 @@ mod c;
 #[path = "support/workloads.rs"]
 mod workloads;
 
-use nuyardi::{limits, Excess, Kind, Stop};
+use nuyardi::{limits, Excess, Kind, Lack, Stop};
 use std::collections::BTreeMap;
 use std::path::Path;
 use std::process::Command;
@@ -33,8 +33,10 @@ fn sizes() {
         ("RESULTS_BYTES", limits::RESULTS_BYTES),
         ("TEXT_BYTES", limits::TEXT_BYTES),
         ("BOUNDS_BYTES", limits::BOUNDS_BYTES),
+        ("PLACES_BYTES", limits::PLACES_BYTES),
         ("VALUES", limits::VALUES),
         ("BOUND", limits::BOUND),
+        ("FILLED", limits::FILLED),
         ("OBJECTS", limits::OBJECTS),
         ("FIELDS", limits::FIELDS),
         ("FRAMES", limits::FRAMES),
@@ -68,6 +70,8 @@ fn limits_of_the_model() {
         (limits::VALUES, model::LOCALS),
         (limits::BOUNDS_BYTES, model::BOUND_BYTES),
         (limits::BOUND, model::BOUND as usize),
+        (limits::PLACES_BYTES, model::PLACE_BYTES),
+        (limits::FILLED, model::FILLED_ATOMS),
         (limits::PROGRAM_STEPS, model::PROGRAM_STEPS as usize),
     ];
     for (at, (ours, theirs)) in pairs.into_iter().enumerate() {
@@ -106,11 +110,15 @@ fn numbers() {
     let excesses = Excess::ALL
         .iter()
         .map(|excess| (format!("{excess:?}"), excess.number()));
+    let lacks = Lack::ALL
+        .iter()
+        .map(|lack| (format!("{lack:?}"), lack.number()));
     let stops = Stop::ALL
         .iter()
         .map(|stop| (format!("{stop:?}"), stop.number()));
     let cases = kinds
         .chain(excesses)
+        .chain(lacks)
         .chain(stops)
         .map(|(name, number)| (in_capitals(&name), number));
     assert_eq!(named, own.into_iter().chain(cases).collect::<Vec<_>>());
@@ -203,7 +211,8 @@ fn called_from_c() {
 /// The answers of a C program with areas fresh from malloc are the model's.
 #[test]
 fn replayed() {
-    let texts: Vec<Vec<u8>> = (0..150).map(generator::text).collect();
+    let texts = (0..150).map(generator::text);
+    let texts: Vec<Vec<u8>> = texts.chain((0..150).map(generator::starred)).collect();
     c::as_expected(
         Command::new(c::compiled("replay")),
         "replay-texts",
@@ -218,6 +227,7 @@ fn replayed() {
 fn stack() {
     let timed = workloads::all().into_iter().map(|workload| workload.text);
     let generated = (0..200).map(generator::text);
+    let generated = generated.chain((0..100).map(generator::starred));
     let names = c::files("stack-texts", timed.chain(generated));
     let output = Command::new(c::compiled("stack"))
         .arg("2000")
@@ -226,7 +236,7 @@ fn stack() {
     let output = output.expect("the program");
     assert!(output.status.success());
     let printed = String::from_utf8_lossy(&output.stdout);
-    let mut most = ["check", "run", "trial", "bound", "lean"].map(|call| (call, 0));
+    let mut most = ["check", "run", "trial", "bound", "lean", "fill"].map(|call| (call, 0));
     let mut rows = 0;
     for line in printed.lines() {
         let mut words = line.split(' ').map(|word| word.parse::<usize>());

@@ -6,10 +6,14 @@ mod cases;
 mod compare;
 
 use cases::Case;
-use compare::{compare_seeds, lean_of, run_of, trial_of, Call, Comparer, Runs, BOUND, CHECK};
+use compare::{
+    compare_seeds, lean_of, run_of, trial_of, Call, Comparer, Counts, Runs, Texts, BOUND, CHECK,
+    FILLED,
+};
 use nuyardi::calls::raw;
-use nuyardi::limits::{BOUNDS_BYTES, RESULTS_BYTES, TEXT_BYTES, WORK_BYTES};
+use nuyardi::limits::{BOUNDS_BYTES, PLACES_BYTES, RESULTS_BYTES, TEXT_BYTES, WORK_BYTES};
 use nuyardi::Returned;
+use std::ops::RangeInclusive;
 use std::path::Path;
 
 /// The call of a case; none if it is of the program.
@@ -22,6 +26,10 @@ fn call_of(case: &Case) -> Option<Call> {
         ("bound", None) => Some(Call::Bound {
             work,
             bounds: length(BOUNDS_BYTES),
+        }),
+        ("fill", None) => Some(Call::Fill {
+            work,
+            places: length(PLACES_BYTES),
         }),
         (name @ ("run" | "trial" | "lean"), Some(steps)) => Some(Call::Run {
             by: match name {
@@ -75,6 +83,7 @@ fn lines_that_are_no_case() {
         "trial 7 6d = 0",
         "lean/9/8 7 6d = 1 0",
         "bound/9/8 6d = 1 0",
+        "fill/9/8 6d = 1 0",
     ] {
         assert!(call(line).is_some(), "{line}");
     }
@@ -88,6 +97,7 @@ fn lines_that_are_no_case() {
         "run x 6d = 0",
         "lean 6d = 0",
         "leen 7 6d = 0",
+        "fill 7 6d = 0",
         "chek 6d = 0 0",
     ] {
         assert!(call(line).is_none(), "{line}");
@@ -112,7 +122,7 @@ fn every_example() {
         let runs = runs
             .into_iter()
             .flat_map(|steps| [run_of(steps), trial_of(steps), lean_of(steps)]);
-        for call in runs.chain([CHECK, BOUND]) {
+        for call in runs.chain([CHECK, BOUND, FILLED]) {
             if let Err(difference) = comparer.call(&text, call) {
                 panic!("{difference}");
             }
@@ -134,7 +144,7 @@ fn lengths_and_single_bytes() {
         texts.push(filled.copied().take(length).collect());
     }
     for text in texts {
-        for call in [CHECK, run_of(10), trial_of(10), lean_of(10), BOUND] {
+        for call in [CHECK, run_of(10), trial_of(10), lean_of(10), BOUND, FILLED] {
             if let Err(difference) = comparer.call(&text, call) {
                 panic!("{difference}");
             }
@@ -142,34 +152,54 @@ fn lengths_and_single_bytes() {
     }
 }
 
-/// At least a million texts; a fortieth of them without optimisation.
-#[test]
-fn a_million_texts() {
+/// At least a million texts; a fortieth of them without optimisation. How often
+/// each call gave each number.
+fn a_million(texts: Texts) -> Counts {
     let seeds = if cfg!(debug_assertions) {
         1_250
     } else {
         50_000
     };
-    let [checks, runs, trials, bounds, leans] = match compare_seeds(0..seeds) {
+    let counts = match compare_seeds(texts, 0..seeds) {
         Ok(counts) => counts,
         Err(difference) => panic!("{difference}"),
     };
-    let texts: u64 = checks.iter().sum();
-    println!("{texts} texts\ncheck {checks:?}\nrun {runs:?}\ntrial {trials:?}\nbound {bounds:?}");
-    assert_eq!(leans, runs, "lean's numbers are run's");
+    let texts: u64 = counts[0].iter().sum();
+    println!("{texts} texts");
+    for (call, counts) in compare::CALLS.iter().zip(counts) {
+        println!("{call} {counts:?}");
+    }
     assert_eq!(texts, seeds * (1 + compare::MUTATIONS as u64));
     assert!(cfg!(debug_assertions) || texts >= 1_000_000);
-    for (call, counts, numbers) in [
-        ("check", checks, &[0..=0, 2..=14][..]),
-        ("run", runs, &[0..=0, 2..=14, 21..=23, 27..=27]),
-        ("trial", trials, &[0..=0, 2..=9, 21..=27]),
-        ("bound", bounds, &[0..=0, 2..=16]),
-    ] {
-        for (number, &count) in counts.iter().enumerate() {
-            let given = numbers.iter().any(|numbers| numbers.contains(&number));
-            assert_eq!(count > 0, given, "{call} gave {number} {count} times");
-        }
+    counts
+}
+
+/// A call gave each of these numbers, and no other.
+fn gave(call: &str, counts: &[u64], numbers: &[RangeInclusive<usize>]) {
+    for (number, &count) in counts.iter().enumerate() {
+        let given = numbers.iter().any(|numbers| numbers.contains(&number));
+        assert_eq!(count > 0, given, "{call} gave {number} {count} times");
     }
+}
+
+#[test]
+fn a_million_texts() {
+    let [checks, runs, trials, bounds, leans, fills] = a_million(Texts::Any);
+    assert_eq!(leans, runs, "lean's numbers are run's");
+    gave("check", &checks, &[0..=0, 2..=14]);
+    gave("run", &runs, &[0..=0, 2..=14, 21..=23, 27..=27]);
+    gave("trial", &trials, &[0..=0, 2..=9, 21..=27]);
+    gave("bound", &bounds, &[0..=0, 2..=16]);
+    // None of these texts has a star.
+    gave("fill", &fills, &[2..=9, 18..=18]);
+}
+
+/// W11: texts with a `requires` line to be filled in.
+#[test]
+fn a_million_texts_to_be_filled_in() {
+    let [checks, .., fills] = a_million(Texts::Starred);
+    gave("check", &checks, &[0..=0, 2..=14]);
+    gave("fill", &fills, &[0..=0, 2..=9, 17..=18]);
 }
 
 /// A null text is allowed with length 0: it is the empty text.
@@ -202,32 +232,40 @@ fn a_null_text() {
         assert_eq!(Returned::of(ran).refusal(), unfinished);
         assert!(work.iter().chain(&results).all(|&byte| byte == 0));
     }
-    work.fill(0xa5);
-    let mut bounds = [0x5a; BOUNDS_BYTES];
-    // SAFETY: as above.
-    let bounded = unsafe {
-        raw::station_bound(
-            std::ptr::null(),
-            0,
-            work.as_mut_ptr(),
-            WORK_BYTES,
-            bounds.as_mut_ptr(),
-            BOUNDS_BYTES,
-        )
-    };
-    assert_eq!(Returned::of(bounded).refusal(), unfinished);
-    assert!(work.iter().chain(&bounds).all(|&byte| byte == 0));
+    let tells: [(raw::Tells, usize); 2] = [
+        (raw::station_bound, BOUNDS_BYTES),
+        (raw::station_fill, PLACES_BYTES),
+    ];
+    for (call, bytes) in tells {
+        work.fill(0xa5);
+        let mut area = vec![0x5a; bytes];
+        // SAFETY: as above.
+        let told = unsafe {
+            call(
+                std::ptr::null(),
+                0,
+                work.as_mut_ptr(),
+                WORK_BYTES,
+                area.as_mut_ptr(),
+                bytes,
+            )
+        };
+        assert_eq!(Returned::of(told).refusal(), unfinished);
+        assert!(work.iter().chain(&area).all(|&byte| byte == 0));
+    }
 }
 
 /// Two threads with areas of their own get the answers that one gets.
 #[test]
 fn two_threads_at_once() {
-    let texts: Vec<Vec<u8>> = (0..200).map(generator::text).collect();
+    let texts = (0..200).map(generator::text);
+    let texts: Vec<Vec<u8>> = texts.chain((0..100).map(generator::starred)).collect();
     let answers = || -> Vec<_> {
         let mut station = nuyardi::Station::new();
         let answer = |text| {
             let (ran, tried) = (station.run(text, 500), station.trial(text, 500));
-            (ran, tried, station.lean(text, 500), station.bound(text))
+            let told = (station.bound(text), station.fill(text));
+            (ran, tried, station.lean(text, 500), told)
         };
         texts
             .iter()

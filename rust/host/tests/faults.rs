@@ -11,7 +11,10 @@ use std::process::Command;
 /// The texts that are timed, those at the limits among them, generated ones, and texts that are cut anywhere.
 fn texts(generated: u64) -> Vec<Vec<u8>> {
     let timed = workloads::all().into_iter().map(|workload| workload.text);
-    let made: Vec<Vec<u8>> = (0..generated).map(generator::text).collect();
+    let made = (0..generated).map(generator::text);
+    let made: Vec<Vec<u8>> = made
+        .chain((0..generated / 2).map(generator::starred))
+        .collect();
     let cut = made
         .iter()
         .enumerate()
@@ -69,6 +72,7 @@ fn under_valgrind() {
     program
         .args(["--quiet", "--error-exitcode=9"])
         .arg(c::compiled("replay"));
-    let texts: Vec<Vec<u8>> = (0..150).map(generator::text).collect();
+    let texts = (0..150).map(generator::text);
+    let texts: Vec<Vec<u8>> = texts.chain((0..50).map(generator::starred)).collect();
     c::as_expected(program, "valgrind-texts", &texts, 500);
 }

@@ -1,10 +1,10 @@
 //! The calls for the host, over byte slices: "Each returns number × 65,536 +
 //! line." What each does with the areas is told byte by byte.
 
-use crate::limits::{BOUND_BYTES, RESULT_BYTES, WORK_BYTES};
+use crate::limits::{BOUND_BYTES, PLACE_BYTES, RESULT_BYTES, WORK_BYTES};
 use crate::machine::Run;
 use crate::number;
-use crate::{trial, Bounds, Judged};
+use crate::{fill, trial, Bounds, Judged};
 
 fn returned(number: u32, line: u32) -> u32 {
     number * 65_536 + line
@@ -97,4 +97,16 @@ pub fn lean_call(text: &[u8], work: &mut [u8], steps: u32, results: &mut [u8]) -
 
 pub fn bound_call(text: &[u8], work: &mut [u8], bounds: &mut [u8]) -> u32 {
     bound_over(work, bounds, || Judged::new(text).bound())
+}
+
+/// W11: "The answer is 4 bytes, the atoms' places from 1, rising, then zeros; a
+/// refusal has only zeros."
+pub fn fill_call(text: &[u8], work: &mut [u8], places: &mut [u8]) -> u32 {
+    if work.len() != WORK_BYTES || places.len() != PLACE_BYTES {
+        return returned(number::AREA, 0);
+    }
+    let filled = fill(text);
+    work.fill(0);
+    places.copy_from_slice(&filled.places);
+    returned(filled.number, filled.line)
 }

@@ -360,7 +360,12 @@ pub fn check_watched<'a>(program: &Program<'a>, watch: &mut impl Watch<'a>) -> R
     })
 }
 
-/// The check of one block alone, with someone who looks on.
+/// The check of one block alone.
+pub fn check_block(program: &Program, block: usize) -> Result<(), Refusal> {
+    check_block_watched(program, block, &mut Unwatched)
+}
+
+/// The same, with someone who looks on.
 pub fn check_block_watched<'a>(
     program: &Program<'a>,
     block: usize,

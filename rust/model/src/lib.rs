@@ -10,6 +10,7 @@ pub mod call;
 mod chains;
 pub mod checker;
 pub mod faults;
+pub mod fill;
 pub mod form;
 mod formula;
 pub mod framing;
@@ -30,7 +31,8 @@ pub mod state;
 pub mod text;
 pub mod watch;
 
-pub use call::{bound_call, check_call, lean_call, run_call, trial_call};
+pub use call::{bound_call, check_call, fill_call, lean_call, run_call, trial_call};
+pub use fill::{fill, Filled};
 pub use machine::Run;
 pub use number::Refusal;
 pub use print::printed;

@@ -34,11 +34,16 @@ pub const FRAMES: usize = 64;
 /// W6: "if the bound passes 1,000,000"
 pub const BOUND: u32 = 1_000_000;
 
+/// W11: "at most 4 `acc` atoms"
+pub const FILLED_ATOMS: usize = 4;
+
 /// "a work area of 65,536 bytes"
 pub const WORK_BYTES: usize = 65_536;
 /// "a results area of 52 bytes"
 pub const RESULT_BYTES: usize = 52;
 /// W6: "The call fills 8 bytes"
 pub const BOUND_BYTES: usize = 8;
+/// W11: "The answer is 4 bytes"
+pub const PLACE_BYTES: usize = 4;
 /// "The program ... allows 1,000 steps"
 pub const PROGRAM_STEPS: u32 = 1_000;

@@ -6,7 +6,7 @@ pub const DONE: u32 = 0;
 /// A lent area of wrong length.
 pub const AREA: u32 = 1;
 
-/// Why a text is refused, or has no bound; the value is the number.
+/// Why a text is refused, has no bound or is not filled in; the value is the number.
 #[derive(Clone, Copy, Debug, PartialEq, Eq, PartialOrd, Ord, Hash)]
 pub enum Reason {
     /// Text too long.
@@ -40,6 +40,10 @@ pub enum Reason {
     Unbounded = 15,
     /// Main's bound passes 1,000,000 (W6).
     BoundPassed = 16,
+    /// No set of `acc` atoms for the star is accepted (W11).
+    Unfilled = 17,
+    /// No star, or a second one (W11).
+    Stars = 18,
 }
 
 impl Reason {
@@ -63,6 +67,8 @@ pub const NOT_SHOWN: u32 = Reason::NotShown.number();
 pub const STATE_FULL: u32 = Reason::StateFull.number();
 pub const UNBOUNDED: u32 = Reason::Unbounded.number();
 pub const BOUND_PASSED: u32 = Reason::BoundPassed.number();
+pub const UNFILLED: u32 = Reason::Unfilled.number();
+pub const STARS: u32 = Reason::Stars.number();
 
 /// Allowed steps taken, main's `end` not done: no step is stopped by it.
 pub const OUT_OF_STEPS: u32 = 21;

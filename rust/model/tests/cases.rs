@@ -3,8 +3,8 @@
 //! 02, of which a file has the answers of its own level. The run of a file from
 //! before W7 is trial now.
 
-use model::limits::{BOUND_BYTES, RESULT_BYTES, WORK_BYTES};
-use model::{bound_call, check_call, lean_call, printed, run_call, trial_call};
+use model::limits::{BOUND_BYTES, PLACE_BYTES, RESULT_BYTES, WORK_BYTES};
+use model::{bound_call, check_call, fill_call, lean_call, printed, run_call, trial_call};
 use std::collections::HashMap;
 
 /// The cases of document 01.
@@ -39,6 +39,7 @@ const SINCE_W7: &[Level] = &[
     ("W8", include_str!("cases/w8.tsv"), 164, &[]),
     ("W9", include_str!("cases/w9.tsv"), 227, &[]),
     ("W10", include_str!("cases/w10.tsv"), 186, &[]),
+    ("W11", include_str!("cases/w11.tsv"), 147, &[]),
 ];
 
 /// Which call a file's `run` is.
@@ -80,11 +81,12 @@ fn parse(left: &str, runs: Runs) -> Case<'_> {
     let usual = match name {
         "run" | "trial" | "lean" => RESULT_BYTES,
         "bound" => BOUND_BYTES,
+        "fill" => PLACE_BYTES,
         _ => 0,
     };
     let (work, second) = (length(WORK_BYTES), length(usual));
     let (steps, hex) = match (name, &fields[1..]) {
-        ("check" | "bound" | "program", &[hex]) => (0, hex),
+        ("check" | "bound" | "fill" | "program", &[hex]) => (0, hex),
         ("run" | "trial" | "lean", &[steps, hex]) => (steps.parse().expect("steps"), hex),
         _ => panic!("no call: {left}"),
     };
@@ -97,9 +99,12 @@ fn parse(left: &str, runs: Runs) -> Case<'_> {
     }
 }
 
-/// What the second area holds: the steps, unsigned, and twelve signed values, or
-/// the bound and the frames, which are small.
-fn decoded(area: &[u8]) -> Vec<i64> {
+/// What the second area holds: the steps, unsigned, and twelve signed values; the
+/// bound and the frames, which are small; or the places, a byte each.
+fn decoded(call: &str, area: &[u8]) -> Vec<i64> {
+    if call == "fill" {
+        return area.iter().copied().map(i64::from).collect();
+    }
     area.chunks(4)
         .enumerate()
         .map(|(at, four)| {
@@ -124,6 +129,7 @@ fn answer(case: &Case) -> String {
         }
         "check" => check_call(&case.text, &mut work),
         "bound" => bound_call(&case.text, &mut work, &mut second),
+        "fill" => fill_call(&case.text, &mut work, &mut second),
         "trial" => trial_call(&case.text, &mut work, case.steps, &mut second),
         "lean" => lean_call(&case.text, &mut work, case.steps, &mut second),
         _ => run_call(&case.text, &mut work, case.steps, &mut second),
@@ -135,7 +141,7 @@ fn answer(case: &Case) -> String {
     if refused {
         assert!(second.iter().all(|&byte| byte == 0x5a), "the second area");
     } else {
-        answer.extend(decoded(&second));
+        answer.extend(decoded(case.call, &second));
     }
     let answer: Vec<String> = answer.iter().map(i64::to_string).collect();
     answer.join(" ")

@@ -1,12 +1,11 @@
 use Rattle.check_state.specs.States.{Wf}
-use Prim.Native.Nat.{ℕ, _-_, _≤_}
+use Prim.Native.Nat.{_-_, _≤_}
 use Rattle.checker.proofs.Blocks.{methods-all, method-accepted, method-stops, main-last}
 use Rattle.rules.specs.Rules.{checkBlocks, checkProgram}
 use Rattle.tables.specs.Decode.{methodsFrom, programIn}
 use borrow.Author.Needs.{needs}
-use mathlib.Core.Path.{_≡_, sym, _∙_, subst, refl}
+use mathlib.Core.Path.{_≡_, sym, _∙_, refl}
 use native.Mathlib.Omega.{arith}
-use Rattle.checker.specs.Checked.{Nests}
 use Rattle.checker.proofs.check.Statement.{statement}
 use Rattle.checker.proofs.check.Tie as tie
 
@@ -69,28 +68,11 @@ loop-again c =
     let at-check-method = c .before .before .check-method in
     (omega (arith, at-loop-test .taken), at-loop .inv .1 ∙ method-accepted _ _ _ (at-loop-test .taken) _ (at-check-method .ensures .0) (c .enum-told .given .1), at-check-method .ensures .1)
 
-clear-requires-2 : tie.Need-clear-requires-2 Inv-loop μ-loop
-clear-requires-2 c κs =
-    c .before .before .loop .inv .2 .linked .size
-
-main-first-requires : tie.Need-main-first-requires Inv-loop μ-loop
-main-first-requires c κs = c .before .before .before .before .before .before .before .before .before .pre .size
-
-check-block-requires : tie.Need-check-block-requires Inv-loop μ-loop
-check-block-requires c κs =
-    let start = c .before .before .before .before .before .before .before .before .before .before .before .before in
-    let at-loop = c .before .before .before .before .before .before .loop in
-    let at-clear2 = c .before .before .before .clear2 in
-    let at-main-first = c .before .before .main-first in
-    (start .pre, omega (arith, start .pre .main-fits .0, at-main-first .ensures .0), subst (λ (k : ℕ). Nests (start .args .w .now) k 0) (sym (at-main-first .ensures .0)) (start .pre .main-fits .1), omega arith, at-clear2 .ensures _ (at-loop .inv .2 .linked .header) .wf)
+check-main-requires : tie.Need-check-main-requires Inv-loop μ-loop
+check-main-requires c κs = (c .before .before .before .before .before .before .before .before .before .pre, c .before .before .before .loop .inv .2)
 
 returns-2 : tie.Need-returns-2 Inv-loop μ-loop
-returns-2 c =
-    let at-loop = c .before .before .before .before .before .before .before .loop in
-    let at-loop-test = c .before .before .before .before .before .before .loop-test in
-    let at-clear2 = c .before .before .before .before .clear2 in
-    let at-main-first = c .before .before .before .main-first in
-    c .check-block .ensures .0 ∙ main-last _ _ _ _ (at-loop-test .left) (at-main-first .ensures .0) _ (at-clear2 .ensures _ (at-loop .inv .2 .linked .header) .same) ∙ sym (at-loop .inv .1)
+returns-2 c = c .check-main .ensures .0 ∙ main-last _ _ _ (c .before .before .before .loop-test .left) ∙ sym (c .before .before .before .before .loop .inv .1)
 
 pub check-spec : {M : Type 1} → statement M
 check-spec =
@@ -109,7 +91,5 @@ check-spec =
     add-m
     loop-less
     loop-again
-    clear-requires-2
-    main-first-requires
-    check-block-requires
+    check-main-requires
     returns-2)

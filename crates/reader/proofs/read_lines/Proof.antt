@@ -113,7 +113,7 @@ unfolding ResolvedIs
 returns-2 c =
     let t = c .before .before .before .before .before .args .text .now in
     let e : c .before .loop .i ≡ c .before .before .before .before .before .args .n = omega (arith, c .before .loop .inv .0, c .loop-test .left) in
-    (resolving-done (c .before .loop .inv .1) (subst (λ i. length t ≤ startOf t i) (sym e) (c .before .loop .inv .2 .all)), c .before .loop .inv .1 .whole)
+    (resolving-done (c .before .loop .inv .1) (c .before .loop .inv .2) (subst (λ i. length t ≤ startOf t i) (sym e) (c .before .loop .inv .2 .all)), c .before .loop .inv .1 .whole)
 
 pub read-lines-spec : {M : Type 1} → statement M
 read-lines-spec =

@@ -6,11 +6,12 @@ use super::outline::{Name, Outline};
 use crate::library::Library;
 use explain::all::{further, readable};
 use explain::cause::{agreed, explained, form_of, Cause};
-use explain::fix::{fix, Fix, WHOLE};
+use explain::fix::{filled_instead, fix, Fix, WHOLE};
 use explain::script::Script;
 use explain::{fmt, known, script, Json};
 use model::form::{line_or_kind, next_words, shape_of, AtomShape, Operand, Tail, ATOM_SHAPES};
 use model::text::Reader;
+use nuyardi::{Kind, Refusal};
 
 fn line_of(text: &str, line: u32) -> &str {
     let bytes = script::line(text.as_bytes(), line + 1).unwrap_or_default();
@@ -96,8 +97,8 @@ pub fn diagnostics(text: &str) -> Json {
     Json::List([first].into_iter().chain(others).collect())
 }
 
-/// The fix of the first refusal, as code actions where it touches the lines that
-/// are asked about.
+/// The fixes of the first refusal, as code actions where it touches the lines that
+/// are asked about, and the fix of all.
 pub fn actions(text: &str, uri: &str, from: u32, to: u32) -> Json {
     let bytes = text.as_bytes();
     let Err(refusal) = nuyardi::check(bytes) else {
@@ -107,29 +108,42 @@ pub fn actions(text: &str, uri: &str, from: u32, to: u32) -> Json {
     let line = refusal.line().saturating_sub(1);
     let near = (from..=to).contains(&line);
     let one = why.as_ref().and_then(|why| why.fix.clone());
-    let mut found = Vec::new();
-    for fix in one.filter(|_| near).into_iter().chain(whole(bytes)) {
-        let changes = fix.changes(bytes);
-        let edits = changes.iter().map(|change| {
-            let start = position(change.from.0 - 1, column_in(text, change.from));
-            let end = position(change.to.0 - 1, column_in(text, change.to));
-            let range = Json::object().with("start", start).with("end", end);
-            Json::object()
-                .with("range", range)
-                .with("newText", change.text.as_str())
-        });
-        let edits = Json::object().with(uri, Json::List(edits.collect()));
-        let title = match fix.steps.len() {
-            1 => fix.said(),
-            steps => format!("fix everything that can be fixed ({steps} steps)"),
-        };
-        let action = Json::object()
-            .with("title", title)
-            .with("kind", "quickfix")
-            .with("edit", Json::object().with("changes", edits));
-        found.push(action);
+    let mut fixes: Vec<Fix> = one.filter(|_| near).into_iter().collect();
+    let others = filled(bytes, refusal).filter(|_| near).into_iter();
+    for fix in others.chain(whole(bytes)) {
+        if fixes.iter().all(|known| known.text != fix.text) {
+            fixes.push(fix);
+        }
     }
-    Json::List(found)
+    Json::List(fixes.iter().map(|fix| action(text, uri, fix)).collect())
+}
+
+/// A fix as the protocol has it.
+fn action(text: &str, uri: &str, fix: &Fix) -> Json {
+    let changes = fix.changes(text.as_bytes());
+    let edits = changes.iter().map(|change| {
+        let start = position(change.from.0 - 1, column_in(text, change.from));
+        let end = position(change.to.0 - 1, column_in(text, change.to));
+        let range = Json::object().with("start", start).with("end", end);
+        Json::object()
+            .with("range", range)
+            .with("newText", change.text.as_str())
+    });
+    let edits = Json::object().with(uri, Json::List(edits.collect()));
+    let title = match fix.steps.len() {
+        1 => fix.said(),
+        steps => format!("fix everything that can be fixed ({steps} steps)"),
+    };
+    Json::object()
+        .with("title", title)
+        .with("kind", "quickfix")
+        .with("edit", Json::object().with("changes", edits))
+}
+
+/// For a permission that is not shown in a method: its `requires` as fill gives it.
+fn filled(text: &[u8], refusal: Refusal) -> Option<Fix> {
+    let lacks = refusal.kind() == Kind::NoPermission;
+    lacks.then(|| filled_instead(&mut Library::default(), text, refusal.line()))?
 }
 
 /// The fix of all refusals, if it takes more than one step.
@@ -268,6 +282,9 @@ pub fn completion(text: &str, line: u32, column: usize) -> Json {
         Role::Word => {
             let next = next_words(&reader_before(text, line));
             next.into_iter().map(str::to_string).collect()
+        }
+        Role::AtomWord if before == "requires\t" => {
+            [atom_words(|_| true), vec!["*".into()]].concat()
         }
         Role::AtomWord => atom_words(|_| true),
         Role::ConditionWord => atom_words(|atom| atom.condition),

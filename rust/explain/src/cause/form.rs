@@ -2,6 +2,7 @@
 
 use super::places::{misplaced, words};
 use super::Cause;
+use crate::fix::STAR;
 use crate::nearest::{did_you_mean, nearest};
 use crate::script::{field_range, line, listed, shown};
 use model::form::{
@@ -67,11 +68,18 @@ pub fn malformed(text: &[u8], number: u32) -> Option<Cause> {
             Some(help) => field_cause(operand, why, field).help(help),
             None => field_cause(operand, why, field),
         },
+        Fault::UnknownAtom if bytes == STAR.as_bytes() => to_be_filled_in(),
         Fault::UnknownAtom => unknown_atom(field),
         Fault::ShortAtom => short_atom(&bytes[all[at].0..]),
         _ => count_cause(found, all[0].1, field),
     };
     Some(cause.mark(mark))
+}
+
+/// A star that is yet to be filled in, which only fill takes.
+fn to_be_filled_in() -> Cause {
+    Cause::new("the line is yet to be filled in: in the place of `*` stand the atoms")
+        .note("`station fill FILE` finds the permissions, and `--write` puts them there")
 }
 
 const DELETE: &str = "delete the line";

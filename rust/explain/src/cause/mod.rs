@@ -5,6 +5,7 @@
 mod bounds;
 mod bytes;
 pub(crate) mod chains;
+mod fills;
 mod form;
 mod half_helps;
 pub(crate) mod halves;
@@ -19,6 +20,7 @@ mod stopped_halves;
 mod stops;
 
 pub use bounds::bound_cause;
+pub use fills::fill_cause;
 pub use form::form_of;
 pub(crate) use names::unframed;
 pub use stops::{machine_at, open_calls, stop_cause, value_shown, AGAIN};

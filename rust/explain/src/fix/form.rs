@@ -4,6 +4,7 @@
 use super::draft::{both, delete, insert, named, replace, Candidate, Draft};
 use super::edit::Edit;
 use super::fields;
+use super::stars;
 use crate::fmt::formatted;
 use model::form::fault;
 use model::text::{self, Reader};
@@ -20,7 +21,8 @@ pub fn reformatted(text: &[u8]) -> Option<Candidate> {
 
 /// Number 4.
 pub fn candidates(text: &[u8], draft: &Draft, at: usize) -> Vec<Candidate> {
-    let mut found: Vec<Candidate> = reformatted(text).into_iter().collect();
+    let mut found: Vec<Candidate> = stars::candidate(text, draft, at).into_iter().collect();
+    found.extend(reformatted(text));
     let bytes = draft.lines[at].join("\t");
     match fault(bytes.as_bytes()) {
         Some((place, fault)) => found.extend(fields::candidates(draft, at, place, fault)),

@@ -9,10 +9,14 @@ mod form;
 mod lines;
 mod names;
 mod rules;
+mod stars;
 
 use crate::script::Script;
 use draft::{Candidate, Draft};
 use edit::{applied, changes, Change};
+
+pub use stars::{filled_instead, with_set, without_stars, STAR};
+
 use model::number;
 use model::watch::{Purpose, Record};
 
@@ -54,9 +58,9 @@ impl Fix {
 
 /// How far the check of a text comes: the later, the greater. Lines are counted
 /// from the end, since a fix may insert some.
-type Standing = (u32, i64);
+pub(crate) type Standing = (u32, i64);
 
-fn standing(text: &[u8], answer: Answer, after: u32) -> Standing {
+pub(crate) fn standing(text: &[u8], answer: Answer, after: u32) -> Standing {
     let stage = match answer.0 {
         number::DONE => return (9, 0),
         number::TOO_LONG => 0,

@@ -7,6 +7,7 @@
 static uint8_t work[STATION_WORK_BYTES + 1];
 static uint8_t results[STATION_RESULTS_BYTES + 1];
 static uint8_t bounds[STATION_BOUNDS_BYTES + 1];
+static uint8_t places[STATION_PLACES_BYTES + 1];
 static int wrong;
 
 static void expect(int holds, const char *what)
@@ -30,6 +31,7 @@ static void garbage(void)
     memset(work, 0xa5, sizeof work);
     memset(results, 0x5a, sizeof results);
     memset(bounds, 0x5a, sizeof bounds);
+    memset(places, 0x5a, sizeof places);
 }
 
 static uint32_t word(size_t at)
@@ -65,6 +67,43 @@ static void bound_calls(const uint8_t *text, size_t len)
     returned = station_bound(text, len, work, STATION_WORK_BYTES, bounds, STATION_BOUNDS_BYTES - 1);
     expect(returned == STATION_AREA_LENGTH * 65536, "a bounds area too short");
     expect(all(work, sizeof work, 0xa5) && all(bounds, sizeof bounds, 0x5a), "number 1 leaves both areas of bound");
+}
+
+/* A script with one star, which stands for its second and third place. */
+static void fill_calls(const uint8_t *bare, size_t bare_len)
+{
+    const char *starred = "class\tS\nfield\tint\ta\nfield\tint\tb\nmethod\tint\tm\tS\ts\nrequires\t*\n"
+                          "ensures\tacc\tthis\tb\tacc\ts\ta\nend\nmain\nend\n";
+    const uint8_t *text = (const uint8_t *)starred;
+    const uint8_t given[] = {2, 3, 0, 0};
+    size_t len = strlen(starred);
+    uint32_t returned;
+
+    garbage();
+    returned = station_fill(text, len, work, STATION_WORK_BYTES, places, STATION_PLACES_BYTES);
+    expect(returned == STATION_DONE, "the star is filled in");
+    expect(!memcmp(places, given, sizeof given), "the second and the third place");
+    expect(all(work, STATION_WORK_BYTES, 0), "fill clears the work area");
+    expect(work[STATION_WORK_BYTES] == 0xa5 && places[STATION_PLACES_BYTES] == 0x5a, "fill stays within the areas");
+    returned = station_check(text, len, work, STATION_WORK_BYTES);
+    expect(returned == STATION_FORM * 65536 + 5, "check refuses the star");
+
+    returned = station_fill(bare, bare_len, work, STATION_WORK_BYTES, places, STATION_PLACES_BYTES);
+    expect(returned == STATION_STARS * 65536, "there is no star");
+    expect(all(places, STATION_PLACES_BYTES, 0), "zeros where there is no star");
+    garbage();
+    returned = station_fill(NULL, 0, work, STATION_WORK_BYTES, places, STATION_PLACES_BYTES);
+    expect(returned == STATION_UNFINISHED * 65536, "fill of a null text");
+    expect(all(places, STATION_PLACES_BYTES, 0), "zeros after a refusal of fill");
+
+    garbage();
+    returned = station_fill(text, len, work, STATION_WORK_BYTES - 1, places, STATION_PLACES_BYTES);
+    expect(returned == STATION_AREA_LENGTH * 65536, "a work area too short for fill");
+    returned = station_fill(text, len, work, STATION_WORK_BYTES, places, STATION_PLACES_BYTES + 1);
+    expect(returned == STATION_AREA_LENGTH * 65536, "a places area too long");
+    returned = station_fill(text, len, NULL, 0, NULL, 0);
+    expect(returned == STATION_AREA_LENGTH * 65536, "no areas for fill");
+    expect(all(work, sizeof work, 0xa5) && all(places, sizeof places, 0x5a), "number 1 leaves both areas of fill");
 }
 
 /* What station_run returns and leaves, for the steps; number 1 changes nothing. */
@@ -153,6 +192,7 @@ int main(void)
     expect(all(work, sizeof work, 0xa5) && all(results, sizeof results, 0x5a), "number 1 changes nothing");
 
     bound_calls(text, len);
+    fill_calls(text, len);
     lean_calls(text, len, 0);
     lean_calls(text, len, 1);
     lean_calls(text, len, 1000);

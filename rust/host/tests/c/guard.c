@@ -2,8 +2,8 @@
  * be touched right before and right after every area and every text; a text's own
  * pages may only be read. Each thread has areas of its own; the texts are shared.
  *
- * guard STEPS FILE..: prints what check, run, trial, bound and lean returned, for
- * each file, and a sum of the results and bounds areas. Exit status 1 if two
+ * guard STEPS FILE..: prints what check, run, trial, bound, lean and fill returned,
+ * for each file, and a sum of the results, bounds and places areas. Exit status 1 if two
  * threads differ, if lean and run do, or if the work area is not all zero after a
  * call. */
 #define _GNU_SOURCE
@@ -28,7 +28,7 @@ struct text {
 };
 
 struct answer {
-    uint32_t checked, ran, tried, bounded, leaned, sum;
+    uint32_t checked, ran, tried, bounded, leaned, filled, sum;
 };
 
 static struct text *texts;
@@ -77,12 +77,14 @@ static uint32_t added(uint32_t sum, const uint8_t *area, size_t len)
 static void *work_on(void *own)
 {
     struct answer *answer = own;
-    size_t room, results_room, bounds_room;
+    size_t room, results_room, bounds_room, places_room;
     uint8_t *work = pages(STATION_WORK_BYTES, &room);
     uint8_t *low = pages(STATION_RESULTS_BYTES, &results_room);
     uint8_t *high = low + results_room - STATION_RESULTS_BYTES;
     uint8_t *first = pages(STATION_BOUNDS_BYTES, &bounds_room);
     uint8_t *last = first + bounds_room - STATION_BOUNDS_BYTES;
+    uint8_t *front = pages(STATION_PLACES_BYTES, &places_room);
+    uint8_t *back = front + places_room - STATION_PLACES_BYTES;
 
     for (int i = 0; i < count; i++) {
         memset(work, 0xa5, STATION_WORK_BYTES);
@@ -121,6 +123,13 @@ static void *work_on(void *own)
         again = station_run(texts[i].after, texts[i].len, work, STATION_WORK_BYTES, steps, high, STATION_RESULTS_BYTES);
         if (again != answer[i].leaned || memcmp(low, high, STATION_RESULTS_BYTES))
             wrong = 1;
+        memset(work, 0x5a, STATION_WORK_BYTES);
+        memset(front, 0xa5, places_room);
+        answer[i].filled = station_fill(texts[i].after, texts[i].len, work, STATION_WORK_BYTES, back, STATION_PLACES_BYTES);
+        answer[i].sum = added(answer[i].sum, back, STATION_PLACES_BYTES);
+        again = station_fill(texts[i].before, texts[i].len, work, STATION_WORK_BYTES, front, STATION_PLACES_BYTES);
+        if (!all_zero(work, STATION_WORK_BYTES) || again != answer[i].filled || memcmp(front, back, STATION_PLACES_BYTES))
+            wrong = 1;
     }
     return NULL;
 }
@@ -155,8 +164,8 @@ int main(int words, char **word)
             wrong = 1;
     }
     for (int i = 0; i < count; i++)
-        printf("%u %u %u %u %u %u\n", answers[0][i].checked, answers[0][i].ran, answers[0][i].tried, answers[0][i].bounded, answers[0][i].leaned,
-               answers[0][i].sum);
+        printf("%u %u %u %u %u %u %u\n", answers[0][i].checked, answers[0][i].ran, answers[0][i].tried, answers[0][i].bounded, answers[0][i].leaned,
+               answers[0][i].filled, answers[0][i].sum);
     for (int t = 0; t < THREADS; t++)
         free(answers[t]);
     free(texts);

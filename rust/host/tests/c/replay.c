@@ -2,8 +2,8 @@
  * sees a byte that is read or written outside them, and a result that rests on
  * what they held before.
  *
- * replay STEPS FILE..: prints what check, run, trial, bound and lean returned, for
- * each file, and a sum of the results and bounds. */
+ * replay STEPS FILE..: prints what check, run, trial, bound, lean and fill returned,
+ * for each file, and a sum of the results, bounds and places. */
 #include "station.h"
 
 #include <stdio.h>
@@ -29,11 +29,13 @@ int main(int count, char **words)
         uint8_t *third = malloc(STATION_WORK_BYTES);
         uint8_t *fourth = malloc(STATION_WORK_BYTES);
         uint8_t *fifth = malloc(STATION_WORK_BYTES);
+        uint8_t *sixth = malloc(STATION_WORK_BYTES);
         uint8_t *results = malloc(STATION_RESULTS_BYTES);
         uint8_t *others = malloc(STATION_RESULTS_BYTES);
         uint8_t *leanly = malloc(STATION_RESULTS_BYTES);
         uint8_t *bounds = malloc(STATION_BOUNDS_BYTES);
-        if (!text || !work || !again || !third || !fourth || !fifth || !results || !others || !leanly || !bounds)
+        uint8_t *places = malloc(STATION_PLACES_BYTES);
+        if (!text || !work || !again || !third || !fourth || !fifth || !sixth || !results || !others || !leanly || !bounds || !places)
             return 2;
         memcpy(text, read, len);
         uint32_t checked = station_check(text, len, work, STATION_WORK_BYTES);
@@ -41,6 +43,7 @@ int main(int count, char **words)
         uint32_t tried = station_trial(text, len, third, STATION_WORK_BYTES, steps, others, STATION_RESULTS_BYTES);
         uint32_t bounded = station_bound(text, len, fourth, STATION_WORK_BYTES, bounds, STATION_BOUNDS_BYTES);
         uint32_t leaned = station_lean(text, len, fifth, STATION_WORK_BYTES, steps, leanly, STATION_RESULTS_BYTES);
+        uint32_t filled = station_fill(text, len, sixth, STATION_WORK_BYTES, places, STATION_PLACES_BYTES);
         uint32_t sum = 0;
         for (size_t at = 0; at < STATION_RESULTS_BYTES; at++)
             sum = sum * 31 + results[at];
@@ -50,17 +53,21 @@ int main(int count, char **words)
             sum = sum * 31 + bounds[at];
         for (size_t at = 0; at < STATION_RESULTS_BYTES; at++)
             sum = sum * 31 + leanly[at];
-        printf("%u %u %u %u %u %u\n", checked, ran, tried, bounded, leaned, sum);
+        for (size_t at = 0; at < STATION_PLACES_BYTES; at++)
+            sum = sum * 31 + places[at];
+        printf("%u %u %u %u %u %u %u\n", checked, ran, tried, bounded, leaned, filled, sum);
         free(text);
         free(work);
         free(again);
         free(third);
         free(fourth);
         free(fifth);
+        free(sixth);
         free(results);
         free(others);
         free(leanly);
         free(bounds);
+        free(places);
     }
     return 0;
 }

@@ -2,8 +2,8 @@
  * pattern, and the lowest byte that changed tells how deep it went. What the
  * thread itself takes is measured by an empty call and taken off.
  *
- * stack STEPS FILE..: prints, for each file, the bytes of check, run, trial, bound
- * and lean. */
+ * stack STEPS FILE..: prints, for each file, the bytes of check, run, trial, bound,
+ * lean and fill. */
 #define _GNU_SOURCE
 #include "station.h"
 
@@ -18,6 +18,7 @@ enum { STACK = 1 << 20, PATTERN = 0xc7 };
 static uint8_t work[STATION_WORK_BYTES];
 static uint8_t results[STATION_RESULTS_BYTES];
 static uint8_t bounds[STATION_BOUNDS_BYTES];
+static uint8_t places[STATION_PLACES_BYTES];
 static uint8_t text[STATION_TEXT_BYTES + 1];
 static size_t len;
 static uint32_t steps;
@@ -56,6 +57,12 @@ static void *bounded(void *unused)
 static void *leaned(void *unused)
 {
     answer = station_lean(text, len, work, sizeof work, steps, results, sizeof results);
+    return unused;
+}
+
+static void *filled(void *unused)
+{
+    answer = station_fill(text, len, work, sizeof work, places, sizeof places);
     return unused;
 }
 
@@ -98,7 +105,8 @@ int main(int count, char **words)
         long of_trial = depth(tried) - empty;
         long of_bound = depth(bounded) - empty;
         long of_lean = depth(leaned) - empty;
-        printf("%ld %ld %ld %ld %ld %s\n", of_check, of_run, of_trial, of_bound, of_lean, words[i]);
+        long of_fill = depth(filled) - empty;
+        printf("%ld %ld %ld %ld %ld %ld %s\n", of_check, of_run, of_trial, of_bound, of_lean, of_fill, words[i]);
     }
     return 0;
 }

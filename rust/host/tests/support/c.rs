@@ -47,7 +47,7 @@ pub fn files(folder: &str, texts: impl IntoIterator<Item = Vec<u8>>) -> Vec<Path
     written.collect()
 }
 
-/// What `replay` and `guard` print of a text, by the model: what check, run, trial, bound and lean return, and a sum of the results and bounds.
+/// What `replay` and `guard` print of a text, by the model: what check, run, trial, bound, lean and fill return, and a sum of the results, bounds and places.
 pub fn expected(text: &[u8], steps: u32) -> String {
     let mut work = vec![0; limits::WORK_BYTES];
     let mut results = [0; limits::RESULTS_BYTES];
@@ -60,8 +60,10 @@ pub fn expected(text: &[u8], steps: u32) -> String {
     let bounded = model::bound_call(text, &mut work, &mut bounds);
     let sum = results.iter().chain(&bounds).fold(sum, add);
     let leaned = model::lean_call(text, &mut work, steps, &mut results);
-    let sum = results.iter().fold(sum, add);
-    format!("{checked} {ran} {tried} {bounded} {leaned} {sum}\n")
+    let mut places = [0; limits::PLACES_BYTES];
+    let filled = model::fill_call(text, &mut work, &mut places);
+    let sum = results.iter().chain(&places).fold(sum, add);
+    format!("{checked} {ran} {tried} {bounded} {leaned} {filled} {sum}\n")
 }
 
 /// Runs a program that prints a line for each text; each is the model's.

@@ -4,7 +4,7 @@
 
 use generator::{self as gen, mutate, rng::Rng};
 use model::Judged;
-use nuyardi::limits::{BOUNDS_BYTES, RESULTS_BYTES, WORK_BYTES};
+use nuyardi::limits::{BOUNDS_BYTES, PLACES_BYTES, RESULTS_BYTES, WORK_BYTES};
 use nuyardi::{calls, Returned};
 use std::fmt;
 
@@ -52,6 +52,10 @@ pub enum Call {
         work: usize,
         bounds: usize,
     },
+    Fill {
+        work: usize,
+        places: usize,
+    },
 }
 
 /// A call that runs a text.
@@ -63,12 +67,17 @@ pub enum Runs {
     Lean,
 }
 
-/// A check, a bound, a run, a trial and a lean run with areas of the right length.
+/// A check, a bound, a fill, a run, a trial and a lean run with areas of the right length.
 pub const CHECK: Call = Call::Check { work: WORK_BYTES };
 
 pub const BOUND: Call = Call::Bound {
     work: WORK_BYTES,
     bounds: BOUNDS_BYTES,
+};
+
+pub const FILLED: Call = Call::Fill {
+    work: WORK_BYTES,
+    places: PLACES_BYTES,
 };
 
 pub fn run_of(steps: u32) -> Call {
@@ -212,6 +221,16 @@ impl Comparer {
                     judged.bound_call(work, bounds),
                 )
             }
+            Call::Fill { work: len, places } => {
+                let own_places = own_results.set(garbage, places).area();
+                let places = results.set(garbage, places).area();
+                let own_work = own_work.set(garbage, len).area();
+                let work = work.set(garbage, len).area();
+                (
+                    calls::fill(&self.text, own_work, own_places).word(),
+                    model::fill_call(text, work, places),
+                )
+            }
         };
         let what = if library != model {
             "the returned number"
@@ -239,7 +258,7 @@ impl Comparer {
         }))
     }
 
-    /// Check, run, trial, bound and lean; now and then with areas of another length,
+    /// Check, run, trial, bound, lean and fill; now and then with areas of another length,
     /// lean with no step or few, and all with as many steps as can be allowed where
     /// the trial ends before them.
     pub fn every(&mut self, text: &[u8], rng: &mut Rng) -> Result<Answers, Box<Difference>> {
@@ -250,6 +269,7 @@ impl Comparer {
         let tried = self.call_judged(text, &judged, trial_of(steps))?;
         let bounded = self.call_judged(text, &judged, BOUND)?;
         let leaned = self.call_judged(text, &judged, lean_of(steps))?;
+        let filled = self.call_judged(text, &judged, FILLED)?;
         if steps.is_multiple_of(8) {
             self.call_judged(text, &judged, lean_of(0))?;
             self.call_judged(text, &judged, lean_of(1 + text.len() as u32 % 8))?;
@@ -262,7 +282,7 @@ impl Comparer {
             self.call_judged(text, &judged, trial_of(u32::MAX))?;
             self.call_judged(text, &judged, lean_of(u32::MAX))?;
         }
-        Ok([checked, ran, tried, bounded, leaned])
+        Ok([checked, ran, tried, bounded, leaned, filled])
     }
 
     fn wrong_lengths(
@@ -280,9 +300,11 @@ impl Comparer {
         let work = other(rng, WORK_BYTES);
         let results = other(rng, RESULTS_BYTES);
         let bounds = other(rng, BOUNDS_BYTES);
+        let places = other(rng, PLACES_BYTES);
         let steps = gen::steps(rng);
         self.call_judged(text, judged, Call::Check { work })?;
         self.call_judged(text, judged, Call::Bound { work, bounds })?;
+        self.call_judged(text, judged, Call::Fill { work, places })?;
         for by in [Runs::Run, Runs::Trial, Runs::Lean] {
             self.call_judged(
                 text,
@@ -378,20 +400,23 @@ pub fn gently_mutated(rng: &mut Rng, text: &[u8]) -> Vec<u8> {
     mutate::text_from(&lines)
 }
 
-/// The mutations of each generated text.
+/// The texts after the first one of each seed.
 pub const MUTATIONS: usize = 19;
 
 /// One more than the highest number that a call returns.
 pub const NUMBERS: usize =
     nuyardi::EXPLANATIONS[nuyardi::EXPLANATIONS.len() - 1].number as usize + 1;
 
-/// What check, run, trial, bound and lean return.
-pub type Answers = [u32; 5];
+/// The calls that are compared on a text, in the order of their answers.
+pub const CALLS: [&str; 6] = ["check", "run", "trial", "bound", "lean", "fill"];
 
-/// How often each number came from check, run, trial, bound and lean.
-pub type Counts = [[u64; NUMBERS]; 5];
+/// What check, run, trial, bound, lean and fill return.
+pub type Answers = [u32; CALLS.len()];
 
-pub const NONE: Counts = [[0; NUMBERS]; 5];
+/// How often each number came from each of them.
+pub type Counts = [[u64; NUMBERS]; CALLS.len()];
+
+pub const NONE: Counts = [[0; NUMBERS]; CALLS.len()];
 
 /// Counts added up.
 pub fn add(counts: &mut Counts, more: &Counts) {
@@ -400,14 +425,44 @@ pub fn add(counts: &mut Counts, more: &Counts) {
     }
 }
 
-/// The text of a seed and its mutations, compared; counts by number.
+/// Which texts come of seeds.
+#[derive(Clone, Copy, Debug, PartialEq, Eq)]
+pub enum Texts {
+    /// Texts of every kind.
+    Any,
+    /// Texts for fill: most have a `requires` line to be filled in (W11).
+    Starred,
+}
+
+impl Texts {
+    fn first(self, seed: u64) -> Vec<u8> {
+        match self {
+            Texts::Any => gen::text(seed),
+            Texts::Starred => gen::starred(seed),
+        }
+    }
+
+    /// The text at a place after the first one: a mutated one, or, most often for
+    /// fill, a new one.
+    fn next(self, rng: &mut Rng, at: usize, first: &[u8], last: &[u8]) -> Vec<u8> {
+        match (self, at % 3) {
+            (Texts::Starred, 0 | 1) => gen::starred(rng.bits()),
+            (Texts::Any, 0) => mutate::mutated(rng, first),
+            (Texts::Any, 1) => gently_mutated(rng, first),
+            _ => gently_mutated(rng, last),
+        }
+    }
+}
+
+/// The text of a seed and those after it, compared; counts by number.
 pub fn compare_seed(
     comparer: &mut Comparer,
+    texts: Texts,
     seed: u64,
     counts: &mut Counts,
 ) -> Result<(), Box<Difference>> {
     let mut rng = Rng::new(!seed);
-    let text = gen::text(seed);
+    let text = texts.first(seed);
     let mut compare = |rng: &mut Rng, text: &[u8]| -> Result<(), Box<Difference>> {
         let answers = comparer.every(text, rng)?;
         for (counts, returned) in counts.iter_mut().zip(answers) {
@@ -418,11 +473,7 @@ pub fn compare_seed(
     compare(&mut rng, &text)?;
     let mut last = text.clone();
     for at in 0..MUTATIONS {
-        let new = match at % 3 {
-            0 => mutate::mutated(&mut rng, &text),
-            1 => gently_mutated(&mut rng, &text),
-            _ => gently_mutated(&mut rng, &last),
-        };
+        let new = texts.next(&mut rng, at, &text, &last);
         compare(&mut rng, &new)?;
         last = new;
     }
@@ -430,7 +481,7 @@ pub fn compare_seed(
 }
 
 /// Seeds compared by two threads; the texts are the same however they share them.
-pub fn compare_seeds(seeds: std::ops::Range<u64>) -> Result<Counts, Box<Difference>> {
+pub fn compare_seeds(texts: Texts, seeds: std::ops::Range<u64>) -> Result<Counts, Box<Difference>> {
     use std::sync::atomic::{AtomicU64, Ordering};
     let next = AtomicU64::new(seeds.start);
     let work = || {
@@ -441,7 +492,7 @@ pub fn compare_seeds(seeds: std::ops::Range<u64>) -> Result<Counts, Box<Differen
             if seed >= seeds.end {
                 return Ok(counts);
             }
-            if let Err(found) = compare_seed(&mut comparer, seed, &mut counts) {
+            if let Err(found) = compare_seed(&mut comparer, texts, seed, &mut counts) {
                 next.store(seeds.end, Ordering::Relaxed);
                 return Err(comparer.reduced(found));
             }

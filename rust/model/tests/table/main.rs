@@ -37,8 +37,10 @@ fn numbers() {
         StateFull,
         Unbounded,
         BoundPassed,
+        Unfilled,
+        Stars,
     ];
-    assert!(refused.map(|reason| reason.number()).into_iter().eq(2..=16));
+    assert!(refused.map(|reason| reason.number()).into_iter().eq(2..=18));
     let stopped = [
         HeapFull,
         FramesFull,

@@ -1,0 +1,3 @@
+pub mod Calling
+pub mod Apart
+pub mod Passing

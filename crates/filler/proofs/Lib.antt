@@ -1,0 +1,5 @@
+pub mod Firsts
+pub mod Keeping
+pub mod Choosing
+pub mod Finding
+pub mod Sizes

@@ -1,0 +1,15 @@
+pub mod Listed
+pub mod Words
+pub mod Joined
+pub mod Taken
+pub mod Star
+pub mod Classes
+pub mod Fields
+pub mod Programs
+pub mod Headers
+pub mod Resolved
+pub mod Accesses
+pub mod Chosen
+pub mod AtStar
+pub mod StarRead
+pub mod Search
