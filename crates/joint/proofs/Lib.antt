@@ -3,3 +3,4 @@ pub mod Shares
 pub mod Turns
 pub mod Alone
 pub mod Kept
+pub mod Counts

@@ -5,7 +5,7 @@ use Prim.Native.Nat.{ℕ, zero, suc, _+_, _*_}
 use lib.Dec.{leb}
 use lib.ListN.{length, take, drop, replicate}
 use lib.Seq.{sets}
-use Rattle.rules.specs.Base.{all}
+use Rattle.rules.specs.Base.{between, all}
 use Rattle.rules.specs.Limits.{heap-objects, most-scripts, fields-each}
 use Rattle.rules.specs.Answers.{Verdict, accepted, refused, finished, stepsTaken, stopped, wrongShares}
 use Rattle.rules.specs.Syntax.{Program}
@@ -31,9 +31,13 @@ seen h s n = take n (drop (s .first) h)
 unfoldable pub placed : Heap → Share → Heap → Heap
 placed h s part = sets h (s .first) part
 
--- "if there are no scripts, more than four, or shares that are 0 or sum above 256": of n scripts, by the first n shares
+-- not "shares that are 0 or sum above 256"
+unfoldable pub fitTogether : List ℕ → Bool
+fitTogether ks = all (leb 1) ks && leb (total ks) heap-objects
+
+-- not "no scripts, more than four, or shares that are 0 or sum above 256": n scripts, with the first n shares
 unfoldable pub sharesFit : ℕ → List ℕ → Bool
-sharesFit n ks = leb 1 n && leb n most-scripts && all (leb 1) (take n ks) && leb (total (take n ks)) heap-objects
+sharesFit n ks = between 1 most-scripts n && fitTogether (take n ks)
 
 -- "It refuses with 19 at line 0"
 unfoldable pub checkShares : ℕ → List ℕ → Verdict (Unit {0})
@@ -136,5 +140,5 @@ jointRun ss r = let j : Joint = rounds r (joint ss) in map (λ s. cameTo (j .hea
 
 -- Everything above computes where this unfolds.
 unfoldable pub opened : Unit {0}
-unfolding roomOf seen placed sharesFit checkShares stateOf after stepFrom turns takeTurns rounds moment beginning scriptsFrom joint cameTo jointRun
+unfolding roomOf seen placed fitTogether sharesFit checkShares stateOf after stepFrom turns takeTurns rounds moment beginning scriptsFrom joint cameTo jointRun
 opened = tt
