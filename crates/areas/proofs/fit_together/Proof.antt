@@ -1,53 +1,59 @@
+-- `areas::fit_together` meets its contract. Assumes nothing.
+use mathlib.Core.Path.{_≡_, subst}
+use Prim.Native.Nat.{_≤_, _-_}
+use native.Mathlib.Omega.{arith}
+use native.Mathlib.Numerals.{add-one}
+use borrow.Author.Needs.{needs}
+use Rattle.areas.proofs.Shares.{Left, left-none, left-more, zero-fails, more-fails, all-fit}
 use Rattle.areas.proofs.fit_together.Statement.{statement}
 use Rattle.areas.proofs.fit_together.Tie as tie
-use Rattle.areas.proofs.fit_together.Reads as reads
-use Rattle.areas.proofs.fit_together.Lts as lts
 
 abbrev Inv-loop : tie.InvT-loop
-Inv-loop n shares left₀ i₀ left i = ?
+Inv-loop n shares left₀ i₀ left i = (i ≤ n) × Left shares i left
 
 abbrev μ-loop : tie.MeasureT-loop
-μ-loop n shares left₀ i₀ left i = ?
+μ-loop n shares left₀ i₀ left i = n - i
 
--- src/lib.rt:38:20
 cast-left : tie.Need-cast-left Inv-loop μ-loop
-cast-left c = ?
+cast-left c = search needs
 
--- src/lib.rt:40:5
 loop-holds : tie.Need-loop-holds Inv-loop μ-loop
-loop-holds c = ?
+loop-holds c = (omega arith, left-none _)
 
--- src/lib.rt:41:17
 mul-k : tie.Need-mul-k Inv-loop μ-loop
-mul-k c = ?
+mul-k c = search needs
 
--- src/lib.rt:41:17
 shared-slice-read-k : tie.Need-shared-slice-read-k Inv-loop μ-loop
-shared-slice-read-k c = ?
+shared-slice-read-k c = omega (arith, c .before .before .before .pre)
 
--- src/lib.rt:43:13
 returns : tie.Need-returns Inv-loop μ-loop
-returns c = ?
+returns c =
+    let start = c .before .before .before .before in
+    let at-loop = c .before .before .before .loop in
+    zero-fails (start .args .shares .now) (start .args .n) (at-loop .i) (omega arith) (omega (arith, start .pre)) (c .if1 .taken)
 
--- src/lib.rt:46:13
 returns-2 : tie.Need-returns-2 Inv-loop μ-loop
-returns-2 c = ?
+returns-2 c =
+    let start = c .before .before .before .before .before in
+    let at-loop = c .before .before .before .before .loop in
+    more-fails (start .args .shares .now) (start .args .n) (at-loop .i) (at-loop .left) (omega arith) (omega (arith, start .pre)) (at-loop .inv .1) (c .if2 .taken)
 
--- src/lib.rt:49:9
 add-i : tie.Need-add-i Inv-loop μ-loop
-add-i c = ?
+add-i c = omega arith
 
--- src/lib.rt:40:5
 loop-less : tie.Need-loop-less Inv-loop μ-loop
-loop-less c = ?
+loop-less c = omega arith
 
--- src/lib.rt:40:5
 loop-again : tie.Need-loop-again Inv-loop μ-loop
-loop-again c = ?
+loop-again c =
+    let start = c .before .before .before .before .before in
+    let at-loop = c .before .before .before .before .loop in
+    (omega arith, simp add-one (left-more (start .args .shares .now) (at-loop .i) (at-loop .left) _ (omega (arith, start .pre)) (at-loop .inv .1) (omega arith) (c .before .if1 .left)))
 
--- src/lib.rt:34:1
 returns-3 : tie.Need-returns-3 Inv-loop μ-loop
-returns-3 c = ?
+returns-3 c =
+    let start = c .before .before in
+    let n : c .before .loop .i ≡ start .args .n = omega arith in all-fit (start .args .shares .now) _ (c .before .loop .left) (subst (λ k. Left (start .args .shares .now) k (c .before .loop .left)) n (c .before .loop .inv .1))
 
 pub fit-together-spec : {M : Type 1} → statement M
 fit-together-spec =
