@@ -1,10 +1,10 @@
 -- Shares of the heap, added up one after the other.
-use mathlib.Core.Path.{_≡_, refl, ap, ap₂, _∙_}
+use mathlib.Core.Path.{_≡_, refl, ap, _∙_}
 use mathlib.Core.Bool.{Bool, true, false, _&&_}
 use mathlib.Core.List.{List, [], _∷_}
 use Prim.Native.Nat.{ℕ, zero, suc, _+_, _≤_, _<_}
 use native.Mathlib.Omega.{arith}
-use lib.Dec.{leb, leb·suc-suc, leb·suc-zero, leb·zero}
+use lib.Dec.{leb}
 use lib.ListN.{length, getD, take}
 use borrow.Author.Tests.{le-leb, lt-leb}
 use Rattle.rules.specs.Base.{between, all}
@@ -23,7 +23,7 @@ total-more [] i h = absurd (omega arith)
 total-more (k ∷ ks) zero h = omega arith
 total-more (k ∷ ks) (suc i) h = omega (arith, total-more ks i (omega arith))
 
-total-most : (ks : List ℕ) (n i : ℕ) → i < n → i < length ks → total (take i ks) + getD ks i 0 ≤ total (take n ks)
+pub total-most : (ks : List ℕ) (n i : ℕ) → i < n → i < length ks → total (take i ks) + getD ks i 0 ≤ total (take n ks)
 unfolding total
 total-most [] n i h l = absurd (omega arith)
 total-most (k ∷ ks) zero i h l = absurd (omega arith)

@@ -1,19 +1,18 @@
 -- W12's promises of the joint run, but for demand 3: the statements are those of specs/Claims.
 use mathlib.Core.Path.{_≡_, refl, sym, ap, ap₂, _∙_, subst}
-use mathlib.Core.Bool.{cond}
 use mathlib.Core.List.{List, [], _∷_, map}
 use mathlib.Core.Logic.{⊎-elim}
 use Prim.Native.Nat.{ℕ, zero, suc, pred, _+_, _≤_, _<_}
 use native.Mathlib.Omega.{arith}
-use lib.Dec.{ltb, leb·zero, leb·suc-zero, leb·suc-suc}
+use lib.Dec.{leb·zero, leb·suc-zero, leb·suc-suc}
 use lib.ListN.{length, getD, take}
-use Rattle.rules.specs.Answers.{Verdict, accepted, refused, then}
+use Rattle.rules.specs.Answers.{Verdict, then}
 use Rattle.rules.specs.Bounds.{total}
 use Rattle.rules.specs.Machine.{Heap, Outcome}
 use Rattle.rules.specs.Joint.{Share, Going, Progress, Script, Joint, Station, going, over, stepFrom, turns, takeTurns, rounds, moment, joint, cameTo, jointRun}
 use Rattle.joint.specs.Claims.{sizes, SharesFit, noScript, stationAt, shareOf, progressIn, alone, turnsHad, AsAlone, StepEachRound, WhateverTheOthersDo, OneHeap, StaysInShare}
 use Rattle.joint.proofs.Shares.{decide-lt, outside}
-use Rattle.joint.proofs.Turns.{Matches, GoesOn, Stands, AllStand, had, shareFrom, came-to-alone, first-turn, below-changes, joint-begins, rounds-stand, moment-stands}
+use Rattle.joint.proofs.Turns.{Matches, AllStand, had, shareFrom, came-to-alone, first-turn, below-changes, joint-begins, rounds-stand, moment-stands}
 
 -- AS ALONE
 all-alone :

@@ -1,25 +1,24 @@
 -- What W12 promises of `count`, over texts: the statements are those of specs/Counts.
 use mathlib.Core.Path.{_≡_, refl, sym, ap, ap₂, _∙_, subst}
-use mathlib.Core.Bool.{Bool, true, false, cond, _&&_}
+use mathlib.Core.Bool.{Bool, _&&_}
 use mathlib.Core.List.{List, [], _∷_, _++_, map}
 use mathlib.Core.Logic.{_⊎_, inl, inr, ⊎-elim}
-use Prim.Native.Nat.{ℕ, zero, suc, _+_, _*_, _≤_, _<_}
+use Prim.Native.Nat.{ℕ, zero, suc, _≤_, _<_}
 use native.Mathlib.Omega.{arith}
-use lib.Dec.{T, eqb, leb, leb→le, le→leb}
-use lib.ListN.{length, getD, take, drop, replicate, length-append, length-take}
-use lib.Seq.{getD-take, length-take-le, take-at, drop-append-add}
-use borrow.Author.Tests.{eq-eqb}
+use lib.Dec.{T, leb, leb→le, le→leb}
+use lib.ListN.{length, getD, take, replicate, length-append}
+use lib.Seq.{getD-take, length-take-le}
 use Rattle.rules.specs.Base.{between, all}
 use Rattle.rules.specs.Limits.{most-scripts, heap-objects}
 use Rattle.rules.specs.Answers.{Verdict, accepted, refused, then, refusalNumber, wrongShares}
 use Rattle.rules.specs.Syntax.{Program}
 use Rattle.rules.specs.Items.{Item}
 use Rattle.rules.specs.Bounds.{total}
-use Rattle.rules.specs.Machine.{Outcome, Room, runProgram}
+use Rattle.rules.specs.Machine.{Room, runProgram}
 use Rattle.rules.specs.Joint.{Station, roomOf, fitTogether, sharesFit, checkShares, jointRun}
 use Rattle.rules.specs.Reading.{readText, checkFramed, program}
 use Rattle.rules.specs.Rules.{checkProgram}
-use Rattle.rules.specs.Calls.{Result, checkItems, checkedItems, checkText, verdictNumbers, checkedProgram, runItems, runText, runTextIn, wholeHeap, refusedResult, outcomeResult, scriptResult, stations, countScripts, fourResults, countNumbers, countText}
+use Rattle.rules.specs.Calls.{Result, checkItems, checkedItems, checkText, verdictNumbers, checkedProgram, runItems, runText, runTextIn, refusedResult, outcomeResult, scriptResult, stations, countScripts, fourResults, countNumbers, countText}
 use Rattle.rules.specs.Runs.{outcome}
 use Rattle.rules.specs.Demand.{NotStuck, IsRefusal}
 use Rattle.rules.proofs.Lists.{T-true, F-false, and-intro, and-both, decide-test}
@@ -45,7 +44,7 @@ unfolding all
 all-of p [] d h = tt
 all-of p (a ∷ l) d h = and-intro (p a) (all p l) (h 0 (omega arith)) (all-of p l d λ i b. h (suc i) (omega (arith, b)))
 
-fit-right : (q : Asked) → T (sharesFit (q .scripts) (q .shares)) → SharesRight q
+pub fit-right : (q : Asked) → T (sharesFit (q .scripts) (q .shares)) → SharesRight q
 unfolding sharesFit fitTogether between
 fit-right q t =
     let n : ℕ = q .scripts in
@@ -64,7 +63,7 @@ fit-right q t =
       sum = leb→le _ heap-objects d;
     }
 
-right-fit : (q : Asked) → SharesRight q → T (sharesFit (q .scripts) (q .shares))
+pub right-fit : (q : Asked) → SharesRight q → T (sharesFit (q .scripts) (q .shares))
 unfolding sharesFit fitTogether between
 right-fit q S =
     let n : ℕ = q .scripts in
@@ -229,7 +228,7 @@ module _ (q : Asked) where
           four = ap (λ c. length (c .scripts)) e ∙ four-length answers;
         }
 
-  refuses : (SharesRight q → ⊥) → RefusesShares q
+  pub refuses : (SharesRight q → ⊥) → RefusesShares q
   refuses n =
       let e = wrong-answer (λ t. n (fit-right q t)) in
       record { number = ap (λ c. c .number) e; line = ap (λ c. c .line) e; zeros = ap (λ c. c .scripts) e }
@@ -246,7 +245,7 @@ unfolding runText roomOf
 whole-heap-is-run t k = refl
 
 -- DEMAND 3
-refusing : (room : Room) (t : List ℕ) (k : ℕ) → (checkText t .0 ≡ 0 → ⊥) → runTextIn room t k ≡ refusedResult (checkText t)
+pub refusing : (room : Room) (t : List ℕ) (k : ℕ) → (checkText t .0 ≡ 0 → ⊥) → runTextIn room t k ≡ refusedResult (checkText t)
 unfolding checkText runTextIn runItems checkedItems verdictNumbers then
 refusing room t k n = go (readText t) refl
   where

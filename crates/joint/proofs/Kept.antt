@@ -4,17 +4,17 @@ use mathlib.Core.List.{List, [], _∷_}
 use mathlib.Core.Logic.{⊎-elim}
 use Prim.Native.Nat.{ℕ, zero, suc, min, _≤_, _<_}
 use native.Mathlib.Omega.{arith}
-use lib.ListN.{length, getD}
+use lib.ListN.{length}
 use Rattle.rules.specs.Answers.{Verdict, accepted, refused, then, Refusal}
 use Rattle.rules.specs.Syntax.{Program}
-use Rattle.rules.specs.Machine.{Config, Heap, Outcome, Room, on, stop, done, step, valueAt}
-use Rattle.rules.specs.Runs.{Run, CallStep, During, Existed}
-use Rattle.rules.specs.Joint.{Share, Going, Progress, Joint, Station, going, over, roomOf, seen, stateOf, moment, joint, jointRun}
+use Rattle.rules.specs.Machine.{Config, Heap, Outcome, Room, on, step, valueAt}
+use Rattle.rules.specs.Runs.{Run}
+use Rattle.rules.specs.Joint.{Share, Going, Progress, Joint, Station, going, over, roomOf, stateOf, moment, joint}
 use Rattle.rules.proofs.Counting.{run-listed}
 use Rattle.rules.proofs.Disjoint.{two-halves}
 use Rattle.rules.proofs.Chains.{chains-end, chains-handed}
 use Rattle.soundness.proofs.FrameKept.{existed, frame-kept}
-use Rattle.joint.specs.Claims.{SharesFit, noScript, stationAt, shareOf, roomAt, progressIn, fieldIn, alone, turnsHad, StandsIn, Follows, CallsKeepShare, KeepsShare, CallsKeepTheirShare}
+use Rattle.joint.specs.Claims.{SharesFit, noScript, stationAt, shareOf, roomAt, progressIn, fieldIn, alone, turnsHad, StandsIn, Follows, CallsKeepShare, CallsKeepTheirShare}
 use Rattle.joint.proofs.Reaches.{Reaches, reached, reached-once, at-most, as-long, no-further}
 use Rattle.joint.proofs.Shares.{decide-lt, seen-field}
 use Rattle.joint.proofs.Turns.{InShare, GoesOn, Ended, by-stop, by-end, PassedOver, was-refused, has-ended, Matches}

@@ -1,18 +1,17 @@
 -- The states that a run comes to, step by step; a run from there; and that it never has more objects than its heap has room for.
 use mathlib.Core.Path.{_≡_, refl, sym, ap, _∙_, subst}
-use mathlib.Core.Bool.{cond}
 use mathlib.Core.List.{List, [], _∷_, map}
 use mathlib.Core.Logic.{⊎-elim}
 use Prim.Native.Nat.{ℕ, zero, suc, _+_, _-_, _≤_, _<_}
 use native.Mathlib.Omega.{arith}
 use lib.Dec.{ltb, ltb→lt}
-use lib.ListN.{length, getD, length-append}
+use lib.ListN.{length, length-append}
 use Rattle.rules.specs.Base.{ok, update}
 use Rattle.rules.specs.Answers.{Stop, Ending, finished, stepsTaken, stopped}
-use Rattle.rules.specs.Syntax.{Rel, Expr, Operation, Simple, Stmt, Field, Formula, Program, methodNumbered, result-variable}
+use Rattle.rules.specs.Syntax.{Rel, Expr, Simple, Stmt, Field, Formula, Program, methodNumbered}
 use Rattle.rules.specs.Syntax.{path, set, assign, compute, new, call, return, assert, release, openChain, shutChain, simple, if, else, join, loop, again, end}
-use Rattle.rules.specs.Machine.{Config, Frame, Heap, Location, Room, Step, on, stop, done, step, stepAt, simpleStep, run, goOn, ends, start, runProgram, statementOf}
-use Rattle.rules.specs.Machine.{locate, value, footprint, store, stored, grown, newCell, withFrame, entered, returned, computed, choose, setStep, assignStep, computeStep, newStep, callStep, assertStep, releaseStep, takeWalk, openStep, shutStep, ifStep, elseStep, loopStep, againStep, endStep, returnStep, valueOf, bind}
+use Rattle.rules.specs.Machine.{Config, Frame, Heap, Room, on, stop, done, step, stepAt, simpleStep, run, goOn, ends, start, runProgram, statementOf}
+use Rattle.rules.specs.Machine.{locate, value, footprint, store, stored, grown, newCell, withFrame, entered, returned, computed, choose, setStep, assignStep, computeStep, newStep, assertStep, releaseStep, takeWalk, openStep, shutStep, ifStep, elseStep, loopStep, againStep, endStep, returnStep, valueOf}
 use Rattle.rules.specs.Runs.{EndedBy, Run, TwoHalves}
 use Rattle.rules.proofs.Lists.{and-both, decide-eq}
 use Rattle.rules.proofs.Tries.{bind-ok, check-ok, ok-inj}

@@ -1,12 +1,12 @@
 -- The one heap and its shares: what is placed in a share is seen there, and nothing outside of it changes.
 use mathlib.Core.Path.{_≡_, refl, sym, ap, _∙_}
-use mathlib.Core.List.{List, [], _++_, append-assoc}
+use mathlib.Core.List.{[], _++_, append-assoc}
 use mathlib.Core.Logic.{_⊎_, inl, inr, ⊎-elim}
 use Prim.Native.Nat.{ℕ, zero, suc, _+_, _-_, _≤_, _<_}
 use native.Mathlib.Omega.{arith}
 use lib.Dec.{ltb, ltb→lt, nltb→le, not-T}
 use lib.ListN.{length, getD, take, drop}
-use lib.Seq.{sets, length-sets, sets-eq, take-take, drop-drop, take-add, take-at, drop-at, length-take-le, drop-append-add, getD-take, getD-drop}
+use lib.Seq.{length-sets, sets-eq, take-take, drop-drop, take-add, take-at, drop-at, length-take-le, drop-append-add, getD-take, getD-drop}
 use Rattle.rules.specs.Machine.{Heap, valueIn, object, valueAt}
 use Rattle.rules.specs.Joint.{Share, seen, placed}
 use Rattle.rules.proofs.Lists.{decide-test}

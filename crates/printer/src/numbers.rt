@@ -37,4 +37,6 @@ impl Number {
     pub const UNBOUNDED: u32 = 15;
 
     pub const BOUND_PASSED: u32 = 16;
+
+    pub const WRONG_SHARES: u32 = 19;
 }

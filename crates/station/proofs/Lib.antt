@@ -2,6 +2,8 @@ pub mod Words
 pub mod Texts
 pub mod Calls
 pub mod Bounded
+pub mod Parts
+pub mod Counted
 pub mod Demand3
 pub mod Promises
 pub mod Refusals

@@ -8,7 +8,9 @@ use lib.ListN.{length}
 use Rattle.rules.specs.Limits.{work-bytes}
 use Rattle.rules.specs.Syntax.{Program}
 use Rattle.rules.specs.Bounds.{boundProgram}
+use Rattle.rules.specs.Machine.{runProgram}
 use Rattle.rules.specs.Lean as Lean
+use Rattle.rules.specs.Joint.{roomOf}
 use Rattle.rules.specs.Calls.{Result, Bounds, wholeHeap, outcomeResult, refusedResult, boundNumbers}
 use Rattle.rules.specs.Areas.{resultBytes, boundBytes, Checked, Ran, Bounded}
 use Rattle.reader.specs.Readings.{Tabled}
@@ -34,6 +36,10 @@ RunAs r f results work = (numbersIn f ≡ runNumbers r) × (results ≡ resultBy
 -- the answer r, unless a refusal was found
 unfoldable pub unlessRefused : Reply → Result → Result
 unlessRefused f r = cond (eqb (f .number) 0) r (refusedResult (numbersIn f))
+
+-- a run of the program P with a share of so many objects for the heap
+abbrev pub shareRun : ℕ → Program → ℕ → Result
+shareRun j P k = outcomeResult (runProgram (roomOf j) P k)
 
 -- a run of the program P by the lean machine
 abbrev pub leanRun : Program → ℕ → Result
