@@ -14,9 +14,9 @@ use compare::{
 };
 use days::{compare_days, DayComparer};
 use generator::days::CountDay;
-use model::limits::COUNT_BYTES;
 use nuyardi::calls::raw;
-use nuyardi::limits::{BOUNDS_BYTES, PLACES_BYTES, RESULTS_BYTES, TEXT_BYTES, WORK_BYTES};
+use nuyardi::limits::WORK_BYTES;
+use nuyardi::limits::{BOUNDS_BYTES, COUNT_BYTES, PLACES_BYTES, RESULTS_BYTES, TEXT_BYTES};
 use nuyardi::Returned;
 use std::ops::RangeInclusive;
 use std::path::Path;

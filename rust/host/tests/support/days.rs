@@ -5,17 +5,9 @@
 use crate::compare::{add, by_two_threads, garbage, shorter, Lent, Numbers, NUMBERS};
 use generator::days::CountDay;
 use generator::{mutate, rng::Rng};
-use model::limits::{COUNT_BYTES, SCRIPTS, SCRIPT_BYTES};
-use nuyardi::limits::WORK_BYTES;
-use nuyardi::Returned;
+use nuyardi::limits::{COUNT_BYTES, SCRIPTS, SCRIPT_BYTES, WORK_BYTES};
+use nuyardi::{calls, Returned};
 use std::fmt;
-
-/// A call that counts: the scripts, the rounds, the texts, the work area, the shares
-/// and the results.
-type Count = fn(u32, u32, [&[u8]; SCRIPTS], &mut [u8], [u32; SCRIPTS], &mut [u8]) -> Returned;
-
-/// The library's; as long as it has none the model's answers stand alone.
-pub const COUNT: Option<Count> = None;
 
 /// The lengths of both areas.
 pub type Lengths = [usize; 2];
@@ -86,12 +78,9 @@ impl DayComparer {
             day.shares,
             results.set(garbage, results_len).area(),
         );
-        let Some(count) = COUNT else {
-            return Ok((model, numbers(day, results.area())));
-        };
         // The library reads texts of its own, whose bytes must stay.
         let texts = day.texts.clone();
-        let library = count(
+        let library = calls::count(
             day.scripts,
             day.rounds,
             texts.each_ref().map(Vec::as_slice),
