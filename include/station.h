@@ -1,5 +1,5 @@
-/* Catalogue scripts: check, run, trial, lean, bound and fill, the functions of
- * libnuyardi.a and libnuyardi.so.
+/* Catalogue scripts: check, run, trial, lean, bound, fill and count, the functions
+ * of libnuyardi.a and libnuyardi.so.
  *
  * Each returns number * 65536 + line (STATION_NUMBER, STATION_LINE). For every
  * content of the text and of the areas, number, line and every byte of the areas
@@ -39,6 +39,7 @@ extern "C" {
 #define STATION_RESULTS_BYTES 52
 #define STATION_BOUNDS_BYTES 8
 #define STATION_PLACES_BYTES 4
+#define STATION_COUNT_BYTES 224
 /* The longest text, in bytes. */
 #define STATION_TEXT_BYTES 32768
 /* Values in the results area: main's variables in the order of their lines. */
@@ -52,6 +53,11 @@ extern "C" {
 #define STATION_BOUND 1000000
 /* The most permissions that a `requires *` is filled in with. */
 #define STATION_FILLED 4
+/* The most scripts of a count, what it leaves of each, in bytes, and the fields that
+ * a script has for each object of its share. */
+#define STATION_SCRIPTS 4
+#define STATION_SCRIPT_BYTES 56
+#define STATION_FIELDS_EACH 4
 /* More stack than any call takes, in bytes. */
 #define STATION_STACK_BYTES 65536
 
@@ -79,6 +85,7 @@ enum station_number {
     STATION_BOUND_PASSED = 16,      /* bound above STATION_BOUND steps */
     STATION_UNFILLED = 17,          /* no set of at most STATION_FILLED permissions for `requires *` */
     STATION_STARS = 18,             /* no `requires *`, or a second one */
+    STATION_SHARES = 19,            /* no scripts or more than STATION_SCRIPTS; a share of 0, or shares above STATION_OBJECTS */
     STATION_OUT_OF_STEPS = 21,      /* allowed steps taken */
     STATION_HEAP_FULL = 22,         /* more than STATION_OBJECTS objects or STATION_FIELDS fields */
     STATION_FRAMES_FULL = 23,       /* more than STATION_FRAMES frames */
@@ -168,6 +175,34 @@ uint32_t station_bound(const uint8_t *text, size_t text_len,
 uint32_t station_fill(const uint8_t *text, size_t text_len,
                       uint8_t *work, size_t work_len,
                       uint8_t *places, size_t places_len);
+
+/* Runs up to four scripts over one heap of STATION_OBJECTS objects, one step of each
+ * a round, in order, for at most so many rounds. Each has a share of so many
+ * objects and STATION_FIELDS_EACH times as many fields, and numbers of its own for
+ * them. A script that is refused, finished or stopped is passed over; no step
+ * changes a field in another's share.
+ *
+ *   returned   when                                           results area
+ *   0          else                                           each script's answer
+ *   1          an area of wrong length                        unchanged
+ *   19         there are no scripts, or more than             all zero
+ *              STATION_SCRIPTS; a share is 0; or the shares
+ *              are above STATION_OBJECTS together
+ *
+ * Each script's answer is STATION_SCRIPT_BYTES bytes: what station_run returns for
+ * it alone, with its share for the heap and the rounds as steps (4 bytes, low byte
+ * first), then what station_run leaves in its results area. It is the same whatever
+ * the other scripts do. Texts and shares past the count of scripts are not looked
+ * at, and their bytes are zero. */
+uint32_t station_count(uint32_t scripts, uint32_t rounds,
+                       const uint8_t *text1, size_t text1_len,
+                       const uint8_t *text2, size_t text2_len,
+                       const uint8_t *text3, size_t text3_len,
+                       const uint8_t *text4, size_t text4_len,
+                       uint8_t *work, size_t work_len,
+                       uint32_t share1, uint32_t share2,
+                       uint32_t share3, uint32_t share4,
+                       uint8_t *results, size_t results_len);
 
 #ifdef __cplusplus
 }

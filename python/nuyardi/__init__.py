@@ -9,7 +9,7 @@
     >>> nuyardi.bound(text).steps
     2
 
-`check`, `run`, `trial`, `lean`, `bound` and `fill` answer with what the library returns: a refusal is an answer. Only misuse is an exception:
+`check`, `run`, `trial`, `lean`, `bound`, `fill` and `count` answer with what the library returns: a refusal is an answer. Only misuse is an exception:
 a text that is not bytes (TypeError), steps out of range (ValueError), a library that is not there (LibraryNotFound).
 
 `explain`, `trace`, `cards` and `draw` need a second library, libnuyardi_explain.so, and raise LibraryNotFound without it. The functions of
@@ -19,13 +19,14 @@ a text that is not bytes (TypeError), steps out of range (ValueError), a library
 from ._explain import Drawing, cards, draw, explain, explain_run, trace
 from ._library import LibraryError, LibraryMismatch, LibraryNotFound
 from ._version import __version__
-from .answers import Bounded, Checked, Filled, Object, Ran, Value, Variable
+from .answers import Bounded, Checked, Counted, Filled, Object, Ran, Value, Variable
 from .numbers import Number
-from .scripts import bound, check, fill, lean, run, trial
+from .scripts import bound, check, count, fill, lean, run, trial
 
 __all__ = [
     "Bounded",
     "Checked",
+    "Counted",
     "Filled",
     "Drawing",
     "LibraryError",
@@ -40,6 +41,7 @@ __all__ = [
     "bound",
     "cards",
     "check",
+    "count",
     "draw",
     "explain",
     "explain_run",

@@ -75,7 +75,7 @@ _AREA = [_BYTES, _LENGTH]
 
 @_once
 def station() -> ctypes.CDLL:
-    """libnuyardi.so: check, run, trial, lean, bound and fill."""
+    """libnuyardi.so: check, run, trial, lean, bound, fill and count."""
     functions = {
         "station_check": [*_AREA, *_AREA],
         "station_run": [*_AREA, *_AREA, _STEPS, *_AREA],
@@ -83,6 +83,7 @@ def station() -> ctypes.CDLL:
         "station_lean": [*_AREA, *_AREA, _STEPS, *_AREA],
         "station_bound": [*_AREA, *_AREA, *_AREA],
         "station_fill": [*_AREA, *_AREA, *_AREA],
+        "station_count": [_STEPS, _STEPS, *(4 * _AREA), *_AREA, *(4 * [_STEPS]), *_AREA],
     }
     return _loaded("libnuyardi.so", SONAME, "NUYARDI_LIBRARY", functions, ctypes.c_uint32)
 

@@ -3,10 +3,10 @@
 import re
 import struct
 from dataclasses import dataclass
-from typing import Iterator, List, Optional, Tuple, Union
+from typing import Iterator, List, Optional, Sequence, Tuple, Union
 
 from ._library import LibraryMismatch
-from .numbers import VALUES, Number
+from .numbers import SCRIPT_BYTES, VALUES, Number
 
 
 @dataclass(frozen=True)
@@ -102,6 +102,18 @@ class Filled(_Answer):
         return self.number == Number.DONE
 
 
+@dataclass(frozen=True)
+class Counted(_Answer):
+    """How the scripts of a count ended, in order; none where the shares do not fit."""
+
+    scripts: Tuple[Ran, ...]
+
+    @property
+    def finished(self) -> bool:
+        """Is main's `end` done in every script?"""
+        return self.number == Number.DONE and all(script.finished for script in self.scripts)
+
+
 def _parted(returned: int) -> Tuple[Number, int]:
     number, line = divmod(returned, 65536)
     try:
@@ -174,3 +186,11 @@ def bounded(returned: int, bounds: bytes) -> Bounded:
     number, line = _parted(returned)
     steps, frames = struct.unpack("<II", bounds)
     return Bounded(number, line, steps, frames) if number == Number.DONE else Bounded(number, line, None, None)
+
+
+def counted(returned: int, texts: Sequence[bytes], results: bytes) -> Counted:
+    """What count returned for some texts, and left in the results area."""
+    number, line = _parted(returned)
+    parts = zip(texts, (results[at : at + SCRIPT_BYTES] for at in range(0, len(results), SCRIPT_BYTES)))
+    scripts = (ran(*struct.unpack("<I", part[:4]), text, part[4:]) for text, part in parts)
+    return Counted(number, line, tuple(scripts) if number == Number.DONE else ())

@@ -4,14 +4,15 @@ What C can not check is checked here before the call: an area is a writable buff
 memoryview of bytes), and overlaps neither another area nor the text. There are no null pointers: a buffer always has an address. The
 buffers can not be resized or freed during the call. That no other thread writes to them during it is left to the caller.
 
-Most callers want nuyardi.check, nuyardi.run, nuyardi.trial, nuyardi.lean, nuyardi.bound and nuyardi.fill, which need no areas.
+Most callers want nuyardi.check, nuyardi.run, nuyardi.trial, nuyardi.lean, nuyardi.bound, nuyardi.fill and nuyardi.count, which need no
+areas.
 """
 
 import ctypes
-from typing import Any, Tuple, Union
+from typing import Any, Sequence, Tuple, Union
 
 from . import _library
-from .numbers import BOUNDS_BYTES, MOST_STEPS, PLACES_BYTES, RESULTS_BYTES, WORK_BYTES
+from .numbers import BOUNDS_BYTES, COUNT_BYTES, MOST_STEPS, PLACES_BYTES, RESULTS_BYTES, SCRIPTS, WORK_BYTES
 
 #: A writable buffer of bytes.
 Area = Union[bytearray, memoryview, "ctypes.Array[Any]"]
@@ -58,13 +59,18 @@ def _area(name: str, area: Any, length: int) -> _Lent:
     return lent
 
 
+def word_in_range(name: str, value: Any) -> int:
+    """The value, if it is a number from 0 to 4294967295."""
+    if isinstance(value, bool) or not isinstance(value, int):
+        raise TypeError(f"{name} is no int: {type(value).__name__}")
+    if not 0 <= value <= MOST_STEPS:
+        raise ValueError(f"{name} is {value}, and must be from 0 to {MOST_STEPS}")
+    return value
+
+
 def steps_in_range(steps: Any) -> int:
     """The steps, if they are a number from 0 to 4294967295."""
-    if isinstance(steps, bool) or not isinstance(steps, int):
-        raise TypeError(f"steps is no int: {type(steps).__name__}")
-    if not 0 <= steps <= MOST_STEPS:
-        raise ValueError(f"steps is {steps}, and must be from 0 to {MOST_STEPS}")
-    return steps
+    return word_in_range("steps", steps)
 
 
 def _apart(*lent: _Lent) -> None:
@@ -124,3 +130,22 @@ def bound(text: Text, work: Area, bounds: Area) -> int:
 def fill(text: Text, work: Area, places: Area) -> int:
     """station_fill. Afterwards work is all zero, and places has the places of the permissions, a byte each, rising, then zeros."""
     return _told("station_fill", text, work, _area("places", places, PLACES_BYTES))
+
+
+def _four(name: str, values: Sequence[Any]) -> Sequence[Any]:
+    if len(values) != SCRIPTS:
+        raise ValueError(f"{name} has {len(values)} entries, and must have {SCRIPTS}")
+    return values
+
+
+def count(scripts: int, rounds: int, texts: Sequence[Text], work: Area, shares: Sequence[int], results: Area) -> int:
+    """station_count, with four texts and four shares, of which the first so many are looked at. Afterwards work is all zero, and
+    results has 56 bytes for each script: what run returned, then its results."""
+    said, room = [_text(text) for text in _four("texts", texts)], _area("work", work, WORK_BYTES)
+    left = _area("results", results, COUNT_BYTES)
+    for text in said:
+        _apart(text, room, left)
+    first = word_in_range("scripts", scripts), word_in_range("rounds", rounds)
+    parts = [word_in_range("a share", share) for share in _four("shares", shares)]
+    pairs = [word for text in said for word in _pair(text)]
+    return int(_library.station().station_count(*first, *pairs, *_pair(room), *parts, *_pair(left)))

@@ -6,10 +6,14 @@ WORK_BYTES = 65536
 RESULTS_BYTES = 52
 BOUNDS_BYTES = 8
 PLACES_BYTES = 4
+COUNT_BYTES = 224
 TEXT_BYTES = 32768
 VALUES = 12
 BOUND = 1000000
 FILLED = 4
+SCRIPTS = 4
+SCRIPT_BYTES = 56
+OBJECTS = 256
 #: The most steps that can be allowed: 32 bits.
 MOST_STEPS = 2**32 - 1
 
@@ -36,6 +40,7 @@ class Number(enum.IntEnum):
     BOUND_PASSED = 16
     UNFILLED = 17
     STARS = 18
+    SHARES = 19
     OUT_OF_STEPS = 21
     HEAP_FULL = 22
     FRAMES_FULL = 23
@@ -80,6 +85,7 @@ _MEANINGS = {
     Number.BOUND_PASSED: "bound above 1000000 steps",
     Number.UNFILLED: "no set of at most 4 permissions for `requires *`",
     Number.STARS: "no `requires *`, or a second one",
+    Number.SHARES: "no scripts or more than 4; a share of 0, or shares above 256",
     Number.OUT_OF_STEPS: "allowed steps taken",
     Number.HEAP_FULL: "more than 256 objects or 1024 fields",
     Number.FRAMES_FULL: "more than 64 frames",

@@ -1,10 +1,10 @@
-"""check, run, trial, lean, bound and fill, each with areas of its own: calls may run in any number of threads."""
+"""check, run, trial, lean, bound, fill and count, each with areas of its own: calls may run in any number of threads."""
 
-from typing import Any
+from typing import Any, Optional, Sequence
 
 from . import answers, calls
-from .answers import Bounded, Checked, Filled, Ran
-from .numbers import BOUNDS_BYTES, PLACES_BYTES, RESULTS_BYTES, WORK_BYTES
+from .answers import Bounded, Checked, Counted, Filled, Ran
+from .numbers import BOUNDS_BYTES, COUNT_BYTES, OBJECTS, PLACES_BYTES, RESULTS_BYTES, SCRIPTS, WORK_BYTES
 
 
 def script_bytes(text: Any) -> bytes:
@@ -59,3 +59,22 @@ def fill(text: bytes) -> Filled:
     places = bytearray(PLACES_BYTES)
     returned = calls.fill(script_bytes(text), bytearray(WORK_BYTES), places)
     return answers.filled(returned, text, places)
+
+
+def count(texts: Sequence[bytes], rounds: int, shares: Optional[Sequence[int]] = None) -> Counted:
+    """Runs 1 to 4 texts over one heap, one step of each a round, each with a share of so many objects.
+
+    Without shares they are equal parts of 256. What becomes of a text is what run answers of it alone, with its share for the heap
+    and the rounds as steps, by a theorem.
+    """
+    if isinstance(texts, (bytes, bytearray, str)):
+        raise TypeError("texts is one text: give a list of them")
+    given = [script_bytes(text) for text in texts]
+    parts = [OBJECTS // max(len(given), 1)] * len(given) if shares is None else list(shares)
+    if len(parts) != len(given):
+        raise ValueError(f"{len(given)} texts, and {len(parts)} shares")
+    missing = SCRIPTS - len(given)
+    results = bytearray(COUNT_BYTES)
+    four, fours = (given + missing * [b""])[:SCRIPTS], (parts + missing * [0])[:SCRIPTS]
+    returned = calls.count(len(given), rounds, four, bytearray(WORK_BYTES), fours, results)
+    return answers.counted(returned, given, results)

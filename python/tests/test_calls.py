@@ -5,7 +5,7 @@ import struct
 import unittest
 
 from nuyardi import calls
-from nuyardi.numbers import BOUNDS_BYTES, PLACES_BYTES, RESULTS_BYTES, TEXT_BYTES, WORK_BYTES
+from nuyardi.numbers import BOUNDS_BYTES, COUNT_BYTES, PLACES_BYTES, RESULTS_BYTES, TEXT_BYTES, WORK_BYTES
 
 from . import example
 
@@ -115,6 +115,39 @@ class Areas(unittest.TestCase):
             for call in [calls.run, calls.trial, calls.lean]:
                 with self.assertRaises(ValueError):
                     call(WORKED, self.work, steps, self.results)
+
+    def count(self, texts=4 * (WORKED,), work=None, shares=(1, 1, 1, 1), results=None, scripts=2, rounds=1000):
+        results = filled(COUNT_BYTES) if results is None else results
+        returned = calls.count(scripts, rounds, texts, self.work if work is None else work, shares, results)
+        return returned, results
+
+    def test_count(self):
+        returned, results = self.count()
+        one = struct.pack("<II12i", 19, 8, 1, 7, 7, *(0,) * 9)
+        self.assertEqual((returned, results), (0, 2 * one + bytes(2 * len(one))))
+        self.assertEqual(set(self.work), {0})
+        for scripts, shares in [(0, (1, 1, 1, 1)), (5, (1, 1, 1, 1)), (2, (0, 1, 1, 1)), (2, (2**32 - 1, 2, 0, 0))]:
+            self.assertEqual(self.count(scripts=scripts, shares=shares), (19 * 65536, bytes(COUNT_BYTES)))
+        self.assertEqual(self.count(texts=(WORKED, b"", b"\xff", b""))[0], 0)
+
+    def test_counts_that_are_refused(self):
+        shared = memoryview(filled(WORK_BYTES + COUNT_BYTES))
+        for error, message, words in [
+            (ValueError, "work has 5 bytes", {"work": filled(5)}),
+            (ValueError, "results has 52 bytes, and must have 224", {"results": filled(52)}),
+            (ValueError, "texts has 3 entries, and must have 4", {"texts": 3 * (WORKED,)}),
+            (ValueError, "shares has 5 entries, and must have 4", {"shares": 5 * (1,)}),
+            (TypeError, "text is a str", {"texts": 4 * ("main",)}),
+            (ValueError, "a share is -1", {"shares": (1, 1, 1, -1)}),
+            (TypeError, "a share is no int", {"shares": (1, 1, 1, None)}),
+            (ValueError, "rounds is 4294967296", {"rounds": 2**32}),
+            (TypeError, "scripts is no int", {"scripts": 1.0}),
+            (ValueError, "work and results overlap", {"work": shared[:WORK_BYTES], "results": shared[WORK_BYTES - 1 : -1]}),
+            (ValueError, "text and work overlap", {"texts": (WORKED, WORKED, WORKED, self.work)}),
+        ]:
+            with self.assertRaisesRegex(error, message):
+                self.count(**words)
+        self.assertEqual(set(self.work) | set(shared), {0xA5}, "an area was changed")
 
     def test_lean_leaves_what_run_leaves(self):
         for text in [WORKED, WORKED.replace(b"requires\tacc\tthis\tn\n", b"requires\n"), b"", b"\xff"]:

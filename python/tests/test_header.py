@@ -21,12 +21,12 @@ class Header(unittest.TestCase):
         self.assertEqual([(number.name, number.value, number.meaning) for number in Number], theirs)
 
     def test_lengths(self):
-        for name in ["WORK_BYTES", "RESULTS_BYTES", "BOUNDS_BYTES", "TEXT_BYTES", "VALUES", "BOUND"]:
+        for name in ["WORK_BYTES", "RESULTS_BYTES", "BOUNDS_BYTES", "PLACES_BYTES", "TEXT_BYTES", "VALUES", "BOUND", "FILLED", "COUNT_BYTES", "SCRIPTS", "SCRIPT_BYTES", "OBJECTS"]:
             self.assertEqual(getattr(numbers, name), SIZES[name], name)
 
     def test_functions(self):
         declared = set(re.findall(r"^uint32_t (station_\w+)\(", HEADER, re.MULTILINE))
-        self.assertEqual(len(declared), 6)
+        self.assertEqual(len(declared), 7)
         for name in declared:
             self.assertTrue(getattr(_library.station(), name).argtypes, name)
 

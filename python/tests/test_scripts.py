@@ -1,4 +1,4 @@
-"""check, run, trial, lean, bound and fill on scripts with known answers."""
+"""check, run, trial, lean, bound, fill and count on scripts with known answers."""
 
 import dataclasses
 import doctest
@@ -110,6 +110,30 @@ class Answers(unittest.TestCase):
             none = nuyardi.fill(text)
             self.assertEqual((none.number, none.line, none.filled), (number, line, False))
             self.assertEqual((none.places, none.requires, none.text), ((), None, None))
+
+    def test_counted(self):
+        north, south = example("north.script"), example("south.script")
+        counted = nuyardi.count([north, south], 1000)
+        self.assertEqual((counted.number, counted.line, counted.finished), (Number.DONE, 0, True))
+        self.assertEqual(counted.scripts, (nuyardi.run(north, 1000), nuyardi.run(south, 1000)))
+        full = nuyardi.count([north, south, b"main"], 30, [3, 252, 1])
+        self.assertEqual([script.number for script in full.scripts], [Number.HEAP_FULL, Number.DONE, Number.BYTE])
+        self.assertFalse(full.finished)
+        self.assertEqual(nuyardi.count([south], 5).scripts, (nuyardi.run(south, 5),))
+        for texts, shares in [([], None), (5 * [south], None), ([south], [257]), ([south], [0]), (2 * [south], [2**32 - 1, 1])]:
+            none = nuyardi.count(texts, 9, shares)
+            self.assertEqual((none.number, none.line, none.finished, none.scripts), (Number.SHARES, 0, False, ()))
+
+    def test_counts_misused(self):
+        for error, message, words in [
+            (TypeError, "texts is one text", (WORKED, 9)),
+            (TypeError, "text is not bytes", ([WORKED.decode()], 9)),
+            (ValueError, "2 texts, and 1 shares", ([WORKED, WORKED], 9, [1])),
+            (ValueError, "rounds is -1", ([WORKED], -1)),
+            (ValueError, "a share is 4294967296", ([WORKED], 9, [2**32])),
+        ]:
+            with self.assertRaisesRegex(error, message):
+                nuyardi.count(*words)
 
     def test_null_and_negative(self):
         text = b"class\tS\nfield\tS\tn\nmain\nvar\tS\ts\nvar\tint\ta\nlet\ta\t-5\nend\n"

@@ -21,6 +21,7 @@ meanings <- c(
   "16" = "bound above 1000000 steps",
   "17" = "no set of at most 4 permissions for `requires *`",
   "18" = "no `requires *`, or a second one",
+  "19" = "no scripts or more than 4; a share of 0, or shares above 256",
   "21" = "allowed steps taken",
   "22" = "more than 256 objects or 1024 fields",
   "23" = "more than 64 frames",
@@ -73,6 +74,14 @@ requires_line <- function(bytes, places) {
   paste(c("requires", choice[places]), collapse = "\t")
 }
 
+# How a run ended: number, line, steps and values as they come, and the text.
+ended <- function(returned, bytes) {
+  refused <- refuses(returned[1L])
+  more <- list(finished = returned[1L] == 0, refused = refused, steps = returned[3L],
+               variables = variables(if (refused) raw() else bytes, returned[-(1:3)]))
+  answer(returned, more)
+}
+
 print.station_answer <- function(x, ...) {
   place <- if (x$line > 0) paste0("line ", x$line, ": ") else ""
   cat(place, x$meaning, " (number ", x$number, ")\n", sep = "")
@@ -82,5 +91,6 @@ print.station_answer <- function(x, ...) {
   }
   if (!is.null(x$variables) && nrow(x$variables) > 0L) print(x$variables, row.names = FALSE)
   if (!is.null(x$requires) && !is.na(x$requires)) cat(gsub("\t", " ", x$requires, fixed = TRUE), "\n", sep = "")
+  for (script in x$scripts) print(script)
   invisible(x)
 }

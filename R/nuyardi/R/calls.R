@@ -15,9 +15,9 @@ script_bytes <- function(text) {
 }
 
 # Steps as a double, if they are a whole number of 32 bits.
-steps_in_range <- function(steps) {
-  if (!is.numeric(steps) || length(steps) != 1L || is.na(steps)) stop("steps must be one number")
-  if (steps < 0 || steps > 4294967295 || steps != floor(steps)) stop("steps must be a whole number from 0 to 4294967295")
+steps_in_range <- function(steps, name = "steps") {
+  if (!is.numeric(steps) || length(steps) != 1L || is.na(steps)) stop(name, " must be one number")
+  if (steps < 0 || steps > 4294967295 || steps != floor(steps)) stop(name, " must be a whole number from 0 to 4294967295")
   as.double(steps)
 }
 
@@ -35,11 +35,7 @@ station_lean <- function(text, steps = 1000) ran(nuyardi_lean, text, steps)
 
 ran <- function(call, text, steps) {
   bytes <- script_bytes(text)
-  returned <- .Call(call, bytes, steps_in_range(steps))
-  refused <- refuses(returned[1L])
-  more <- list(finished = returned[1L] == 0, refused = refused, steps = returned[3L],
-               variables = variables(if (refused) raw() else bytes, returned[-(1:3)]))
-  answer(returned, more)
+  ended(.Call(call, bytes, steps_in_range(steps)), bytes)
 }
 
 station_bound <- function(text) {
@@ -58,4 +54,19 @@ station_fill <- function(text) {
   places <- places[places > 0L]
   line <- if (filled) requires_line(bytes, places) else NA_character_
   answer(returned, list(filled = filled, places = places, requires = line))
+}
+
+# Up to four texts over one heap, a step of each a round; without shares they are equal parts of 256 objects.
+station_count <- function(texts, rounds = 1000, shares = NULL) {
+  if (!is.list(texts) && !is.character(texts)) stop("texts must be a list of texts, and is ", class(texts)[1L])
+  bytes <- lapply(texts, script_bytes)
+  if (is.null(shares)) shares <- rep(256 %/% max(length(bytes), 1L), length(bytes))
+  if (length(shares) != length(bytes)) stop(length(bytes), " texts, and ", length(shares), " shares")
+  shares <- vapply(shares, steps_in_range, 0, name = "a share")
+  returned <- .Call(nuyardi_count, bytes, steps_in_range(rounds, "rounds"), shares)
+  counted <- returned[1L] == 0
+  script <- function(at) ended(matrix(returned[-(1:2)], ncol = length(bytes))[, at], bytes[[at]])
+  scripts <- if (counted) lapply(seq_along(bytes), script) else list()
+  finished <- counted && all(vapply(scripts, function(script) script$finished, NA))
+  answer(returned, list(finished = finished, scripts = scripts))
 }

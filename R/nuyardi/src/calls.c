@@ -107,3 +107,44 @@ SEXP nuyardi_fill(SEXP text)
     UNPROTECT(1);
     return found;
 }
+
+/* How a script of a count ended: number, line, steps, values. */
+static void ended(double *found, const uint8_t *part)
+{
+    uint32_t returned = word(part, 0);
+    found[0] = STATION_NUMBER(returned);
+    found[1] = STATION_LINE(returned);
+    found[2] = word(part, 1);
+    for (int at = 0; at < STATION_VALUES; at++)
+        found[3 + at] = (int32_t)word(part, 2 + at);
+}
+
+/* Number, line, and for each text what `ended` has. More texts than four are counted, and not looked at. */
+SEXP nuyardi_count(SEXP texts, SEXP rounds, SEXP shares)
+{
+    if (TYPEOF(texts) != VECSXP)
+        Rf_error("texts is no list");
+    if (TYPEOF(shares) != REALSXP || XLENGTH(shares) != XLENGTH(texts))
+        Rf_error("shares are not as many numbers as there are texts");
+    uint32_t scripts = XLENGTH(texts) > STATION_SCRIPTS ? STATION_SCRIPTS + 1 : (uint32_t)XLENGTH(texts);
+    uint32_t looked_at = scripts > STATION_SCRIPTS ? STATION_SCRIPTS : scripts;
+    const uint8_t *text[STATION_SCRIPTS] = {NULL};
+    size_t len[STATION_SCRIPTS] = {0};
+    uint32_t share[STATION_SCRIPTS] = {0};
+    for (uint32_t at = 0; at < looked_at; at++) {
+        SEXP one = VECTOR_ELT(texts, at);
+        nuyardi_is_text(one);
+        text[at] = RAW(one);
+        len[at] = XLENGTH(one);
+        share[at] = nuyardi_steps(Rf_ScalarReal(REAL(shares)[at]));
+    }
+    uint8_t *work = area(STATION_WORK_BYTES), *results = area(STATION_COUNT_BYTES);
+    uint32_t returned = station_count(scripts, nuyardi_steps(rounds), text[0], len[0], text[1], len[1], text[2], len[2], text[3], len[3], work,
+                                      STATION_WORK_BYTES, share[0], share[1], share[2], share[3], results, STATION_COUNT_BYTES);
+    const int each = 3 + STATION_VALUES;
+    SEXP found = PROTECT(answer(returned, each * (int)looked_at));
+    for (uint32_t at = 0; at < looked_at; at++)
+        ended(REAL(found) + 2 + each * at, results + STATION_SCRIPT_BYTES * at);
+    UNPROTECT(1);
+    return found;
+}

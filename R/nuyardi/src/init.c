@@ -10,6 +10,7 @@ static const R_CallMethodDef calls[] = {
     {"nuyardi_lean", (DL_FUNC)&nuyardi_lean, 2},
     {"nuyardi_bound", (DL_FUNC)&nuyardi_bound, 1},
     {"nuyardi_fill", (DL_FUNC)&nuyardi_fill, 1},
+    {"nuyardi_count", (DL_FUNC)&nuyardi_count, 3},
     {"nuyardi_written", (DL_FUNC)&nuyardi_written, 4},
     {NULL, NULL, 0},
 };

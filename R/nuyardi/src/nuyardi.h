@@ -20,6 +20,7 @@ SEXP nuyardi_trial(SEXP text, SEXP steps);
 SEXP nuyardi_lean(SEXP text, SEXP steps);
 SEXP nuyardi_bound(SEXP text);
 SEXP nuyardi_fill(SEXP text);
+SEXP nuyardi_count(SEXP texts, SEXP rounds, SEXP shares);
 SEXP nuyardi_written(SEXP library, SEXP function, SEXP text, SEXP steps);
 
 #endif

@@ -57,6 +57,26 @@ none <- station_fill(worked)
 stopifnot(none$number == 18L, none$line == 0L, !none$filled, identical(none$places, integer()), is.na(none$requires))
 stopifnot(station_check(starred)$number == 4L, station_fill("")$number == 8L)
 
+# Counts.
+counted <- station_count(list(worked, charToRaw(worked), bare))
+stopifnot(counted$number == 0L, counted$line == 0L, !counted$finished,
+          identical(counted$scripts, list(station_run(worked), station_run(worked), station_run(bare))))
+stopifnot(station_count(c(worked, worked), 8, c(1, 255))$finished, !station_count(worked, 7)$finished)
+news <- text("class S", "main", "var S s", "new s S", "new s S", "end")
+full <- station_count(c(news, news), shares = c(1, 2))
+stopifnot(full$scripts[[1L]]$number == 22L, full$scripts[[1L]]$line == 5L, full$scripts[[2L]]$finished)
+for (none in list(station_count(list()), station_count(rep(worked, 5)), station_count(worked, 9, 0),
+                  station_count(c(worked, worked), 9, c(256, 1))))
+  stopifnot(none$number == 19L, none$line == 0L, !none$finished, identical(none$scripts, list()))
+refuses(station_count(5), "texts must be a list of texts")
+refuses(station_count(list(5)), "text must be a raw vector or one string")
+refuses(station_count(worked, -1), "rounds must be a whole number")
+refuses(station_count(worked, 1, 1:2), "1 texts, and 2 shares")
+refuses(station_count(worked, 1, 0.5), "a share must be a whole number")
+refuses(.Call(nuyardi:::nuyardi_count, worked, 1, 1), "texts is no list")
+refuses(.Call(nuyardi:::nuyardi_count, list(worked), 1, 1), "text is no raw vector")
+refuses(.Call(nuyardi:::nuyardi_count, list(raw()), 1, c(1, 1)), "shares are not as many numbers")
+
 # A file.
 path <- tempfile()
 writeBin(charToRaw(worked), path)

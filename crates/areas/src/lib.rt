@@ -1,6 +1,10 @@
-// The lent areas: whether they have their lengths (number 1), and all their bytes set to 0.
+// The lent areas: whether they have their lengths (number 1), and all their bytes set to 0; the shares of the heap (number 19).
 use rules::Machine;
 ghost use mathlib.Core.Path.{_≡_};
+ghost use Prim.Native.Nat.{_≤_};
+ghost use lib.ListN.{length, take};
+ghost use Rattle.rules.specs.Limits.{most-scripts};
+ghost use Rattle.rules.specs.Joint.{fitTogether, sharesFit};
 ghost use Rattle.rules.specs.Areas.{cleared};
 ghost use Rattle.areas.specs.Lengths.{areasFit};
 
@@ -23,4 +27,41 @@ pub fn clear(area: &mut [u8])
         area[i] = 0;
         i += 1;
     }
+}
+
+// Is none of the first n shares 0, and do they come to no more objects than the heap has? What is left of it is counted down, so that no
+// sum can wrap.
+fn fit_together(n: usize, shares: &[u32]) -> bool
+    requires { ⌜ n ≤ length (now shares) ⌝ }
+    ensures { λ r. ⌜ r ≡ fitTogether (take n (now (shares .entry))) ⌝ }
+{
+    let mut left = Machine::OBJECTS as u32;
+    let mut i = 0;
+    while i < n {
+        let k = shares[i];
+        if k == 0 {
+            return false;
+        }
+        if k > left {
+            return false;
+        }
+        left -= k;
+        i += 1;
+    }
+    true
+}
+
+// Are there so many scripts, and do their shares fit into the heap?
+pub fn shares_fit(scripts: u32, shares: &[u32]) -> bool
+    requires { ⌜ length (now shares) ≡ most-scripts ⌝ }
+    ensures { λ r. ⌜ r ≡ sharesFit scripts (now (shares .entry)) ⌝ }
+{
+    let n = scripts as usize;
+    if n == 0 {
+        return false;
+    }
+    if n > Machine::SCRIPTS {
+        return false;
+    }
+    fit_together(n, shares)
 }

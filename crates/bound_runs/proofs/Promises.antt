@@ -15,7 +15,7 @@ use Rattle.rules.specs.Items.{Item}
 use Rattle.rules.specs.Reading.{readText, program}
 use Rattle.rules.specs.Machine.{ends}
 use Rattle.rules.specs.Bounds.{mainBound, mainFrames, firstRepeating, boundOf, boundProgram}
-use Rattle.rules.specs.Calls.{checkItems, checkedItems, wholeHeap, outcomeResult, runItems, runText, boundItems, boundNumbers, boundText}
+use Rattle.rules.specs.Calls.{checkItems, checkedItems, wholeHeap, outcomeResult, runItems, runTextIn, runText, boundItems, boundNumbers, boundText}
 use Rattle.rules.specs.Runs.{Run, outcome, depth}
 use Rattle.rules.proofs.Tries.{then-accepted, accepted-inj, refused-accepted, refusal-not-zero}
 use Rattle.rules.proofs.Counting.{run-listed}
@@ -109,7 +109,7 @@ module _ (t : List ℕ) (e : boundText t .number ≡ 0) where
   main-nested = ([], nests-more [] (drop (P .main) (P .rows)) (read-blocks t (given t e .items) (given t e .is-read) .1), tt)
 
   answers : (k : ℕ) → runText t k ≡ outcomeResult (outcome wholeHeap P (run-listed wholeHeap P k .0))
-  unfolding runText runItems checkedItems then
+  unfolding runText runTextIn runItems checkedItems then
   answers k = rw (given t e .is-read, given t e .is-checked) (ap outcomeResult (run-listed wholeHeap P k .1))
 
   never : (k : ℕ) → runText t k .steps ≤ boundText t .bound

@@ -8,7 +8,7 @@ use Rattle.rules.specs.Calls.{computing}
 use Rattle.rules.specs.Areas as Areas
 use Rattle.rules.specs.Printed as Printed
 use Rattle.rules.proofs.ExampleRows as ExampleRows
-use Rattle.rules.proofs.ExampleRows.{Row, right, bound, fill, print, checkIn, runIn, boundIn, fillIn, row, text, lent, withLine, oneLine, numbers, method}
+use Rattle.rules.proofs.ExampleRows.{Row, right, bound, fill, print, checkIn, runIn, boundIn, fillIn, countIn, row, text, lent, withLine, oneLine, numbers, method}
 use Rattle.rules.proofs.ExampleTexts as ExampleTexts
 use Rattle.rules.proofs.ExampleTexts.{filling}
 
@@ -54,6 +54,13 @@ callRows =
     row (withLine 7 "ensures *" (filling [])) fill (4 ∷ 7 ∷ 0 ∷ 0 ∷ 0 ∷ 0 ∷ []) ∷
     row (filling ("assert *" ∷ [])) fill (4 ∷ 9 ∷ 0 ∷ 0 ∷ 0 ∷ 0 ∷ []) ∷
     row [] fill (8 ∷ 0 ∷ 0 ∷ 0 ∷ 0 ∷ 0 ∷ []) ∷
+    -- "56 bytes: what run returns, then results"; "Texts and shares past the count are not looked at, and their results are zeros"
+    row (numbers ("let a 258" ∷ "let b -2" ∷ [])) (countIn 65536 224 2 9 (oneLine "let a b" ∷ [] ∷ [] ∷ []) (1 ∷ 255 ∷ 0 ∷ 0 ∷ []))
+    (0 ∷ 65536 ∷ 0 ∷ 7 ∷ 0 ∷ 0 ∷ 0 ∷ 3 ∷ 0 ∷ 0 ∷ 0 ∷ 2 ∷ 1 ∷ 0 ∷ 0 ∷ 254 ∷ 255 ∷ 255 ∷ 255 ∷ (replicate 40 0 ++ (3 ∷ 0 ∷ 6 ∷ 0 ∷ replicate 164 0))) ∷
+    -- "It refuses with 19 at line 0, zeros in all results, after number 1"
+    row (oneLine "assert") (countIn 65536 224 0 9 ([] ∷ [] ∷ [] ∷ []) (1 ∷ 1 ∷ 1 ∷ 1 ∷ [])) (1245184 ∷ 65536 ∷ 0 ∷ replicate 224 0) ∷
+    row (oneLine "assert") (countIn 3 224 0 9 ([] ∷ [] ∷ [] ∷ []) (1 ∷ 1 ∷ 1 ∷ 1 ∷ [])) (65536 ∷ 3 ∷ 21 ∷ lent 224) ∷
+    row (oneLine "assert") (countIn 65536 52 1 9 ([] ∷ [] ∷ [] ∷ []) (1 ∷ 1 ∷ 1 ∷ 1 ∷ [])) (65536 ∷ 65536 ∷ 458752 ∷ lent 52) ∷
     -- "then, unless the number is 1 to 9, `run` number line steps, and `var` name value for each"
     row (threeMethods ("let w w" ∷ []) [] []) print (text ("check 9 6" ∷ [])) ∷
     row [] print (text ("check 8 0" ∷ [])) ∷

@@ -41,4 +41,6 @@ impl Number {
     pub const NO_SET_ACCEPTED: u32 = 17;
 
     pub const NOT_ONE_STAR: u32 = 18;
+
+    pub const WRONG_SHARES: u32 = 19;
 }

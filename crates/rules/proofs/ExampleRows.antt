@@ -8,8 +8,8 @@ use lib.ListN.{length, replicate}
 use Rattle.rules.specs.Base.{bytes, update, eqName}
 use Rattle.rules.specs.Text.{tab, line-feed}
 use Rattle.rules.specs.Bounds.{total}
-use Rattle.rules.specs.Calls.{Result, Bounds, Filled, checkText, runText, trialText, leanText, boundText, fillText}
-use Rattle.rules.specs.Areas.{Checked, Ran, Bounded, FillCalled, checkCall, runCall, boundCall, fillCall}
+use Rattle.rules.specs.Calls.{Result, Bounds, Filled, Counted, checkText, runText, trialText, leanText, boundText, fillText, countText}
+use Rattle.rules.specs.Areas.{Checked, Ran, Bounded, FillCalled, checkCall, runCall, boundCall, fillCall, countCall}
 use Rattle.rules.specs.Printed.{printed}
 
 -- TEXTS
@@ -59,7 +59,8 @@ method head ls = head ∷ "requires ne this null" ∷ "ensures" ∷ "var int a" 
 
 -- ROWS
 
--- In the last four both areas are lent, with these lengths, and all their bytes are 7.
+-- In the last five both areas are lent, with these lengths, and all their bytes are 7. A count has the count of scripts, the rounds, the
+-- texts after the row's own, and the shares.
 pub data Call : Type 0 where
   check : Call
   run : ℕ → Call
@@ -67,14 +68,20 @@ pub data Call : Type 0 where
   lean : ℕ → Call
   bound : Call
   fill : Call
+  count : ℕ → ℕ → List (List String) → List ℕ → Call
   print : Call
   checkIn : ℕ → Call
   runIn : ℕ → ℕ → ℕ → Call
   boundIn : ℕ → ℕ → Call
   fillIn : ℕ → ℕ → Call
+  countIn : ℕ → ℕ → ℕ → ℕ → List (List String) → List ℕ → Call
 
 unfoldable pub shown : Result → List ℕ
 shown r = r .number ∷ r .line ∷ r .steps ∷ r .values
+
+unfoldable pub shownAll : List Result → List ℕ
+shownAll [] = []
+shownAll (r ∷ rs) = shown r ++ shownAll rs
 
 unfoldable pub lent : ℕ → List ℕ
 lent n = replicate n 7
@@ -83,8 +90,8 @@ lent n = replicate n 7
 unfoldable pub summed : List ℕ → List ℕ
 summed work = length work ∷ total work ∷ []
 
--- number and line; of a run also the steps and the values; of a bound also the frames; of a fill the places; of the program what it prints; of a call with
--- lent areas what it returns and leaves there
+-- number and line; of a run also the steps and the values; of a bound also the frames; of a fill the places; of a count all four results;
+-- of the program what it prints; of a call with lent areas what it returns and leaves there
 unfoldable pub answer : List ℕ → Call → List ℕ
 answer t check = let v : ℕ × ℕ = checkText t in v .0 ∷ v .1 ∷ []
 answer t (run k) = shown (runText t k)
@@ -92,11 +99,15 @@ answer t (trial k) = shown (trialText t k)
 answer t (lean k) = shown (leanText t k)
 answer t bound = let b : Bounds = boundText t in b .number ∷ b .line ∷ b .bound ∷ b .frames ∷ []
 answer t fill = let f : Filled = fillText t in f .number ∷ f .line ∷ f .places
+answer t (count n r ts ks) =
+    let c : Counted = countText n r (t ∷ map text ts) ks in c .number ∷ c .line ∷ shownAll (c .scripts)
 answer t print = printed t
 answer t (checkIn w) = let c : Checked = checkCall t (lent w) in c .returned ∷ summed (c .work)
 answer t (runIn w k n) = let c : Ran = runCall t (lent w) k (lent n) in c .returned ∷ (summed (c .work) ++ c .results)
 answer t (boundIn w n) = let c : Bounded = boundCall t (lent w) (lent n) in c .returned ∷ (summed (c .work) ++ c .bounds)
 answer t (fillIn w n) = let c : FillCalled = fillCall t (lent w) (lent n) in c .returned ∷ (summed (c .work) ++ c .places)
+answer t (countIn w b n r ts ks) =
+    let c : Ran = countCall n r (t ∷ map text ts) (lent w) ks (lent b) in c .returned ∷ (summed (c .work) ++ c .results)
 
 pub record Row : Type 0 where
   pub text : List ℕ
@@ -115,11 +126,20 @@ row ls = bare (text ls)
 unfoldable pub three : ℕ → ℕ → ℕ → List ℕ
 three a b c = a ∷ b ∷ c ∷ 0 ∷ 0 ∷ 0 ∷ 0 ∷ 0 ∷ 0 ∷ 0 ∷ 0 ∷ 0 ∷ []
 
+-- a script that was refused, or is not there: zeros for steps and values
+unfoldable pub zeros : ℕ → ℕ → List ℕ
+zeros number line = number ∷ line ∷ 0 ∷ three 0 0 0
+
+-- so many times
+unfoldable pub repeated : ℕ → List ℕ → List ℕ
+repeated zero l = []
+repeated (suc n) l = l ++ repeated n l
+
 -- the row's call gives its answer
 unfoldable pub right : Row → Bool
 right r = eqName (answer (r .text) (r .call)) (r .answer)
 
 -- Everything above computes where this unfolds.
 unfoldable pub opened : Unit {0}
-unfolding tabbed text withLine times oneLine script numbers method shown lent summed answer bare row three right
+unfolding tabbed text withLine times oneLine script numbers method shown shownAll lent summed answer bare row three zeros repeated right
 opened = tt

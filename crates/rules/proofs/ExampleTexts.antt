@@ -378,7 +378,20 @@ twoStars =
     "end" ∷
     []
 
+-- so many objects of a class with five fields
+unfoldable pub wide : ℕ → List String
+wide n =
+    "class W" ∷
+    "field int a" ∷
+    "field int b" ∷
+    "field int c" ∷
+    "field int d" ∷
+    "field int e" ∷
+    "main" ∷
+    "var W w" ∷
+    (times n "new w W" ++ ("end" ∷ []))
+
 -- Everything above computes where this unfolds.
 unfoldable pub opened : Unit {0}
-unfolding alias acrossCall twice oldValue twoFields branching innerJoin throughPath overTwoPaths oneName oneOnBothSides counting walk leaving unframed deep lower rings tens walked cards linked shutBoth ring ofChain ofTwo withCard filling twoStars
+unfolding alias acrossCall twice oldValue twoFields branching innerJoin throughPath overTwoPaths oneName oneOnBothSides counting walk leaving unframed deep lower rings tens walked cards linked shutBoth ring ofChain ofTwo withCard filling twoStars wide
 opened = tt

@@ -6,9 +6,9 @@ use Rattle.rules.specs.Base.{all}
 use Rattle.rules.specs.Calls.{computing}
 use Rattle.rules.specs.Printed as Printed
 use Rattle.rules.proofs.ExampleRows as ExampleRows
-use Rattle.rules.proofs.ExampleRows.{Row, check, run, trial, lean, bound, fill, print, row, three, right, text, withLine, times, oneLine, script, numbers, method}
+use Rattle.rules.proofs.ExampleRows.{Row, check, run, trial, lean, bound, fill, count, print, row, three, zeros, repeated, right, text, withLine, times, oneLine, script, numbers, method}
 use Rattle.rules.proofs.ExampleTexts as ExampleTexts
-use Rattle.rules.proofs.ExampleTexts.{worked, alias, acrossCall, twice, oldValue, twoFields, branching, innerJoin, throughPath, overTwoPaths, oneName, oneOnBothSides, counting, walk, leaving, unframed, deep, lower, rings, tens, walked, cards, linked, shutBoth, ring, ofChain, ofTwo, withCard, filling, twoStars}
+use Rattle.rules.proofs.ExampleTexts.{worked, alias, acrossCall, twice, oldValue, twoFields, branching, innerJoin, throughPath, overTwoPaths, oneName, oneOnBothSides, counting, walk, leaving, unframed, deep, lower, rings, tens, walked, cards, linked, shutBoth, ring, ofChain, ofTwo, withCard, filling, twoStars, wide}
 
 abbrev pub rows : List Row
 rows =
@@ -212,6 +212,26 @@ rows =
     -- the form is `requires` and one field `*`, and in every other call that is number 4
     row (withLine 6 "requires * acc this n" (filling [])) fill (4 ∷ 6 ∷ 0 ∷ 0 ∷ 0 ∷ 0 ∷ []) ∷
     row (filling []) check (4 ∷ 6 ∷ []) ∷
+    -- W12: "its own numbering, and one step a round, in order"
+    row worked (count 2 1000 (worked ∷ []) (3 ∷ 3 ∷ [])) (0 ∷ 0 ∷ (repeated 2 (0 ∷ 19 ∷ 8 ∷ three 1 7 7) ++ repeated 2 (zeros 0 0))) ∷
+    row worked (count 1 0 [] (256 ∷ [])) (0 ∷ 0 ∷ (zeros 21 14 ++ repeated 3 (zeros 0 0))) ∷
+    -- "A script refused, finished or stopped is passed over; after r rounds any other has taken r steps, whatever the others do."
+    row (withLine 5 "requires" worked) (count 4 6 (wide 1 ∷ oneLine "assert" ∷ worked ∷ []) (1 ∷ 1 ∷ 1 ∷ 1 ∷ []))
+    (0 ∷ 0 ∷ (zeros 12 7 ++ (zeros 22 9 ++ ((0 ∷ 4 ∷ 2 ∷ three 0 0 0) ++ (21 ∷ 18 ∷ 6 ∷ three 1 7 7))))) ∷
+    -- "a share of k objects and 4 × k fields"
+    row (script ("new s S" ∷ "new t S" ∷ "new s S" ∷ [])) (count 2 9 (script ("new s S" ∷ "new t S" ∷ "new s S" ∷ []) ∷ []) (2 ∷ 3 ∷ []))
+    (0 ∷ 0 ∷ ((22 ∷ 12 ∷ 2 ∷ three 1 2 0) ++ ((0 ∷ 13 ∷ 4 ∷ three 3 2 0) ++ repeated 2 (zeros 0 0)))) ∷
+    row (wide 2) (count 2 9 (wide 2 ∷ []) (2 ∷ 3 ∷ []))
+    (0 ∷ 0 ∷ ((22 ∷ 10 ∷ 1 ∷ three 1 0 0) ++ ((0 ∷ 11 ∷ 3 ∷ three 2 0 0) ++ repeated 2 (zeros 0 0)))) ∷
+    -- "with 19 at line 0, .. before any script is read, if there are no scripts, more than four, or shares that are 0 or sum above 256"
+    row worked (count 0 9 [] (1 ∷ 1 ∷ 1 ∷ 1 ∷ [])) (19 ∷ 0 ∷ repeated 4 (zeros 0 0)) ∷
+    row worked (count 5 9 (worked ∷ worked ∷ worked ∷ []) (1 ∷ 1 ∷ 1 ∷ 1 ∷ [])) (19 ∷ 0 ∷ repeated 4 (zeros 0 0)) ∷
+    row [] (count 2 9 ([] ∷ []) (1 ∷ 0 ∷ [])) (19 ∷ 0 ∷ repeated 4 (zeros 0 0)) ∷
+    row worked (count 2 8 (worked ∷ []) (128 ∷ 129 ∷ [])) (19 ∷ 0 ∷ repeated 4 (zeros 0 0)) ∷
+    row worked (count 2 8 (worked ∷ []) (4294967295 ∷ 2 ∷ [])) (19 ∷ 0 ∷ repeated 4 (zeros 0 0)) ∷
+    row worked (count 2 8 (worked ∷ []) (255 ∷ 1 ∷ [])) (0 ∷ 0 ∷ (repeated 2 (0 ∷ 19 ∷ 8 ∷ three 1 7 7) ++ repeated 2 (zeros 0 0))) ∷
+    -- "Texts and shares past the count are not looked at, and their results are zeros"
+    row worked (count 1 8 ([] ∷ worked ∷ worked ∷ []) (256 ∷ 0 ∷ 1 ∷ 999 ∷ [])) (0 ∷ 0 ∷ ((0 ∷ 19 ∷ 8 ∷ three 1 7 7) ++ repeated 3 (zeros 0 0))) ∷
     []
 
 pub rows-right : T (all right rows)

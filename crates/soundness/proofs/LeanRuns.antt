@@ -11,7 +11,7 @@ use Rattle.rules.specs.Syntax.{Program}
 use Rattle.rules.specs.Machine as Machine
 use Rattle.rules.specs.Machine.{Config, Frame, Room, Step, on, stop, done}
 use Rattle.rules.specs.Lean as Lean
-use Rattle.rules.specs.Calls.{checkItems, checkedItems, wholeHeap, outcomeResult, runItems, leanItems, runText, leanText}
+use Rattle.rules.specs.Calls.{checkItems, checkedItems, wholeHeap, outcomeResult, runItems, leanItems, runTextIn, runText, leanText}
 use Rattle.rules.specs.Demand.{LeanIsRun}
 use Rattle.rules.proofs.Tries.{then-accepted, accepted-inj}
 use Rattle.soundness.specs.Endings.{EndsUnstuck}
@@ -80,9 +80,9 @@ checked-accepted t items e =
     rw (sym (accepted-inj q)) (read-formed t read r, p)
 
 pub lean-is-run : LeanIsRun
-unfolding leanText leanItems runText runItems
+unfolding leanText leanItems runText runTextIn runItems
 lean-is-run t k = go (then (readText t) checkedItems) refl
   where
-    go : (v : Verdict (List Item)) → then (readText t) checkedItems ≡ v → leanItems v k ≡ runItems v k
+    go : (v : Verdict (List Item)) → then (readText t) checkedItems ≡ v → leanItems v k ≡ runItems wholeHeap v k
     go (accepted items) e = let (W, p) = checked-accepted t items e in ap outcomeResult (accepted-lean (program items) W p wholeHeap k)
     go (refused r l) e = refl

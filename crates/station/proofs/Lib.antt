@@ -3,6 +3,8 @@ pub mod Texts
 pub mod Calls
 pub mod Bounded
 pub mod Filling
+pub mod Parts
+pub mod Counted
 pub mod Demand3
 pub mod Promises
 pub mod Refusals

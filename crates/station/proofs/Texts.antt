@@ -2,23 +2,25 @@
 use mathlib.Core.Path.{_≡_, refl, sym, ap, subst, _∙_}
 use mathlib.Core.List.{List, _∷_}
 use mathlib.Core.Logic.{_⊎_, inl, inr, ⊎-elim}
-use Prim.Native.Nat.{ℕ, _<_}
+use Prim.Native.Nat.{ℕ, _≤_, _<_}
 use native.Mathlib.Omega.{arith}
 use lib.ListN.{length, replicate}
 use borrow.Author.Tests.{eq-eqb, ne-eqb}
-use Rattle.rules.specs.Limits.{results-bytes}
+use Rattle.rules.specs.Limits.{results-bytes, most-bytes, values-shown, heap-objects}
 use Rattle.rules.specs.Answers as Answers
 use Rattle.rules.specs.Answers.{Verdict, accepted, refused, then, refusalNumber, endingNumber, stopNumber}
 use Rattle.rules.specs.Items.{Item}
 use Rattle.rules.specs.Reading.{readText, program}
 use Rattle.rules.specs.Rules.{checkProgram}
-use Rattle.rules.specs.Machine.{runProgram}
+use Rattle.rules.specs.Machine.{Room}
 use Rattle.rules.specs.Lean as Lean
-use Rattle.rules.specs.Calls.{Result, checkItems, checkedItems, verdictNumbers, checkText, wholeHeap, outcomeResult, refusedResult, runItems, trialText, runText, leanText}
+use Rattle.rules.specs.Joint.{roomOf}
+use Rattle.rules.specs.Calls.{Result, checkItems, checkedItems, verdictNumbers, checkText, wholeHeap, outcomeResult, refusedResult, runItems, trialText, runTextIn, runText, leanText}
 use Rattle.rules.specs.Areas.{cleared, wordBytes, wordsBytes, resultBytes}
 use Rattle.rules.specs.Demand.{IsRefusal}
 use Rattle.rules.proofs.Lists.{decide-eq}
 use Rattle.rules.proofs.Tries.{refusal-number, refusal-not-zero, accepted-inj}
+use Rattle.rules.proofs.LinesTaken.{read-taken}
 use Rattle.soundness.proofs.ReadRefuses.{read-refused}
 use Rattle.soundness.proofs.LeanRuns.{accepted-lean, checked-accepted, lean-is-run}
 use Rattle.soundness.proofs.Demand3.{check-accepted, same-from-both, check-decides}
@@ -35,9 +37,12 @@ use Rattle.machine.specs.Runs.{number, mainValues, RanAs}
 use Rattle.lean_machine.specs.declared.Ran as Declared
 use Rattle.lean_machine.specs.Runs as Leans
 use Rattle.lean_machine.specs.Runs.{Accepted}
+use Rattle.joint.proofs.Counts.{refusing, whole-heap-is-run}
+use Rattle.printer.proofs.Bounds.{items-small, items-few, program-fits}
+use Rattle.printer.proofs.RunBounds.{outcome-fits}
 use Rattle.printer.proofs.Calls.{fits}
 use Rattle.station.specs.declared.Reply.{Reply}
-use Rattle.station.specs.Station.{numbersIn, runNumbers, Found, unlessRefused, leanRun}
+use Rattle.station.specs.Station.{numbersIn, runNumbers, Found, unlessRefused, shareRun, leanRun}
 
 -- THE READER'S ANSWER BY ITS CASES
 module _ (t w : List ℕ) (r : Reading) (x : ReadingIs t w r) where
@@ -98,9 +103,17 @@ module _ (u : ℕ) (v : Verdict (Unit {0})) where
     found-refused a l e i = ap (λ (m : ℕ). (m, l)) i ∙ (ap verdictNumbers (sym (ap verdictOf e) ∙ is) ∙ by-rules none)
 
 -- RUN AND TRIAL
-taken-ran : {t w : List ℕ} {u : ℕ} (k : ℕ) → Tabled t w u → trialText t k ≡ outcomeResult (runProgram wholeHeap (programIn w) k)
-unfolding trialText runItems
-taken-ran k x = rw (x .read, ← x .program)
+taken-tried : {t w : List ℕ} {u : ℕ} (k : ℕ) → Tabled t w u → trialText t k ≡ shareRun heap-objects (programIn w) k
+unfolding trialText runItems roomOf
+taken-tried k x = rw (x .read, ← x .program)
+
+taken-ran :
+    {t w : List ℕ} {u : ℕ} (j k : ℕ) → Tabled t w u → checkText t .0 ≡ 0 → runTextIn (roomOf j) t k ≡ shareRun j (programIn w) k
+unfolding runTextIn runItems checkedItems then
+taken-ran {t} j k x z =
+    let (items, r, c) = check-accepted t z in
+    let i : items ≡ x .items = accepted-inj (sym r ∙ x .read) in
+    rw (r, c, i, ← x .program)
 
 -- a text that the reader refuses, or takes
 read-decides :
@@ -133,38 +146,41 @@ module _ (f : Reply) (r : Result) where
       let i = found-refusal n in
       (sym (ap runNumbers i), ap (λ (m : ℕ). replicate m 0) e ∙ sym (ap resultBytes i))
 
--- the run that the tables give
-abbrev tablesRun : List ℕ → ℕ → Result
-tablesRun w k = outcomeResult (runProgram wholeHeap (programIn w) k)
-
--- with what was found of a text it is what trial answers, or run
+-- with what was found of a text, the run that the tables give is what trial answers, or run
 module _ {t w : List ℕ} {f : Reply} (k : ℕ) where
-  by-refusal : {v : ℕ × ℕ} {r : Result} → Found v t f w → IsRefusal (v .0) → r ≡ refusedResult v → unlessRefused f (tablesRun w k) ≡ r
-  by-refusal {v = v} F i e =
+  by-refusal : (x : Result) {v : ℕ × ℕ} {r : Result} → Found v t f w → IsRefusal (v .0) → r ≡ refusedResult v → unlessRefused f x ≡ r
+  by-refusal x {v = v} F i e =
       let n : f .number ≡ v .0 = ap (λ (p : ℕ × ℕ). p .0) (F .numbers) in
       found-refusal f _ (λ z. omega (arith, i .0, n, z)) ∙ (ap refusedResult (F .numbers) ∙ sym e)
 
-  by-tables : {v : ℕ × ℕ} → Found v t f w → v ≡ (0, 0) → unlessRefused f (tablesRun w k) ≡ trialText t k
+  by-tables : {v : ℕ × ℕ} → Found v t f w → v ≡ (0, 0) → unlessRefused f (shareRun heap-objects (programIn w) k) ≡ trialText t k
   by-tables F e =
       let z = ap (λ (p : ℕ × ℕ). p .0) (F .numbers ∙ e) in
-      found-none f _ z ∙ sym (taken-ran k (F .taken z .1))
+      found-none f _ z ∙ sym (taken-tried k (F .taken z .1))
 
-  pub found-tried : Found (verdictNumbers (readText t)) t f w → unlessRefused f (tablesRun w k) ≡ trialText t k
-  found-tried F = ⊎-elim (λ r. by-refusal F (r .0) (r .1)) (by-tables F) (read-decides t k)
+  pub found-tried :
+      Found (verdictNumbers (readText t)) t f w → unlessRefused f (shareRun heap-objects (programIn w) k) ≡ trialText t k
+  found-tried F = ⊎-elim (λ r. by-refusal _ F (r .0) (r .1)) (by-tables F) (read-decides t k)
 
-  pub found-run : Found (checkText t) t f w → unlessRefused f (tablesRun w k) ≡ runText t k
-  found-run F =
-      ⊎-elim (λ r. by-refusal F (r .number) (r .answer))
-      (λ e. by-tables F e ∙ sym (same-from-both t (ap (λ (p : ℕ × ℕ). p .0) e) k))
+  -- with a share of j objects for the heap
+  pub found-share : (j : ℕ) → Found (checkText t) t f w → unlessRefused f (shareRun j (programIn w) k) ≡ runTextIn (roomOf j) t k
+  found-share j F =
+      ⊎-elim (λ r. by-refusal _ F (r .number) (refusing (roomOf j) t k (λ z. omega (arith, r .number .0, z))))
+      (λ e.
+      let z = ap (λ (p : ℕ × ℕ). p .0) (F .numbers ∙ e) in
+      found-none f _ z ∙ sym (taken-ran j k (F .taken z .1) (ap (λ (p : ℕ × ℕ). p .0) e)))
       (check-decides t k)
 
+  pub found-run : Found (checkText t) t f w → unlessRefused f (shareRun heap-objects (programIn w) k) ≡ runText t k
+  found-run F = found-share heap-objects F ∙ whole-heap-is-run t k
+
 -- what the machine ends with
-module _ {w w′ : List ℕ} {k : ℕ} {r : Ran} (x : RanAs wholeHeap w k w′ r) where
-  pub ran-numbers : {n : ℕ} → n ≡ number (r .ending) → (n, r .line) ≡ runNumbers (outcomeResult (runProgram wholeHeap (programIn w) k))
+module _ (j : ℕ) {w w′ : List ℕ} {k : ℕ} {r : Ran} (x : RanAs (roomOf j) w k w′ r) where
+  pub ran-numbers : {n : ℕ} → n ≡ number (r .ending) → (n, r .line) ≡ runNumbers (shareRun j (programIn w) k)
   unfolding outcomeResult number
   ran-numbers i = ap (λ (m : ℕ). (m, r .line)) i ∙ sym (ap (λ o. runNumbers (outcomeResult o)) (x .outcome))
 
-  pub ran-bytes : wordsBytes (r .steps ∷ mainValues w′) ≡ resultBytes (outcomeResult (runProgram wholeHeap (programIn w) k))
+  pub ran-bytes : wordsBytes (r .steps ∷ mainValues w′) ≡ resultBytes (shareRun j (programIn w) k)
   unfolding outcomeResult resultBytes
   ran-bytes = sym (ap (λ o. resultBytes (outcomeResult o)) (x .outcome))
 
@@ -180,6 +196,7 @@ tables-accepted {t} F z =
     rw (x .program, ← i) (checked-accepted t items (rw (r, c) refl))
 
 pub found-lean : {t w : List ℕ} {f : Reply} (k : ℕ) → Found (checkText t) t f w → unlessRefused f (leanRun (programIn w) k) ≡ leanText t k
+unfolding roomOf
 found-lean {t} {w} {f} k F =
     ⊎-elim
     (λ (z : f .number ≡ 0).
@@ -229,10 +246,10 @@ unfolding verdictNumbers
 verdict-small (accepted u) = omega arith
 verdict-small (refused r l) = refusal-small r
 
-trial-small : (v : Verdict (List Item)) (k : ℕ) → runItems v k .number < 65536
+run-small : (room : Room) (v : Verdict (List Item)) (k : ℕ) → runItems room v k .number < 65536
 unfolding runItems outcomeResult refusedResult
-trial-small (accepted items) k = ending-small _
-trial-small (refused r l) k = refusal-small r
+run-small room (accepted items) k = ending-small _
+run-small room (refused r l) k = refusal-small r
 
 pub check-fits : (t : List ℕ) → NumbersFit (checkText t)
 unfolding checkText
@@ -240,13 +257,33 @@ check-fits t = (verdict-small _, fits t 0 (omega arith) .check-line)
 
 pub trial-fits : (t : List ℕ) (k : ℕ) → k < 4294967296 → NumbersFit (runNumbers (trialText t k))
 unfolding trialText
-trial-fits t k h = (trial-small (readText t) k, fits t k h .trial-line)
+trial-fits t k h = (run-small wholeHeap (readText t) k, fits t k h .trial-line)
 
 pub run-fits : (t : List ℕ) (k : ℕ) → k < 4294967296 → NumbersFit (runNumbers (runText t k))
 unfolding refusedResult
 run-fits t k h =
     ⊎-elim (λ r. fits-as (ap runNumbers (r .answer)) (check-fits t))
     (λ e. fits-as (ap runNumbers (same-from-both t (ap (λ (p : ℕ × ℕ). p .0) e) k)) (trial-fits t k h))
+    (check-decides t k)
+
+-- with a share of j objects for the heap
+pub record ShareFits (r : Result) : Type 0 where
+  pub numbers : NumbersFit (runNumbers r)
+  pub shown : length (r .values) ≡ values-shown
+
+pub share-fits : (j : ℕ) → j ≤ heap-objects → (t : List ℕ) (k : ℕ) → ShareFits (runTextIn (roomOf j) t k)
+unfolding refusedResult runTextIn runItems checkedItems then outcomeResult roomOf
+share-fits j h t k =
+    ⊎-elim
+    (λ r.
+    subst ShareFits (sym (refusing (roomOf j) t k (λ z. omega (arith, r .number .0, z))))
+    (record { numbers = check-fits t; shown = refl }))
+    (λ e.
+    let (items, r, c) = check-accepted t (ap (λ (p : ℕ × ℕ). p .0) e) in
+    let few = items-few t items r in
+    let (text, x) = read-taken t items r in
+    let o = outcome-fits most-bytes (roomOf j) (program items) h (program-fits most-bytes items few (items-small text x)) k in
+    rw (r, c) (record { numbers = (ending-small _, omega (arith, o .line)); shown = o .shown }))
     (check-decides t k)
 
 pub lean-fits : (t : List ℕ) (k : ℕ) → k < 4294967296 → NumbersFit (runNumbers (leanText t k))

@@ -16,7 +16,7 @@ word-sets : (l : List ℕ) (i v : ℕ) → putWord l i v ≡ sets l i (wordBytes
 unfolding putWord wordBytes
 word-sets l i v = simp towards-suc
 
-word-put : (x d : List ℕ) (i v : ℕ) → length x ≡ i → 4 ≤ length d → putWord (x ++ d) i v ≡ x ++ (wordBytes v ++ drop 4 d)
+pub word-put : (x d : List ℕ) (i v : ℕ) → length x ≡ i → 4 ≤ length d → putWord (x ++ d) i v ≡ x ++ (wordBytes v ++ drop 4 d)
 unfolding wordBytes
 word-put x d i v e h =
     word-sets (x ++ d) i v ∙ (sets-eq (wordBytes v) (x ++ d) i (omega (arith, length-append x d))
@@ -27,7 +27,7 @@ unfolding wordsBytes
 bytes-append [] b = refl
 bytes-append (w ∷ a) b = ap (λ (l : List ℕ). wordBytes w ++ l) (bytes-append a b) ∙ sym (append-assoc (wordBytes w) (wordsBytes a) (wordsBytes b))
 
-bytes-length : (a : List ℕ) → length (wordsBytes a) ≡ length a * 4
+pub bytes-length : (a : List ℕ) → length (wordsBytes a) ≡ length a * 4
 unfolding wordsBytes wordBytes
 bytes-length [] = refl
 bytes-length (w ∷ a) = omega (arith, bytes-length a)

@@ -10,7 +10,9 @@ use Rattle.rules.specs.Limits.{work-bytes}
 use Rattle.rules.specs.Answers.{Verdict}
 use Rattle.rules.specs.Syntax.{Program}
 use Rattle.rules.specs.Bounds.{boundProgram}
+use Rattle.rules.specs.Machine.{runProgram}
 use Rattle.rules.specs.Lean as Lean
+use Rattle.rules.specs.Joint.{roomOf}
 use Rattle.rules.specs.Calls.{Result, Bounds, Filled, wholeHeap, outcomeResult, refusedResult, boundNumbers, setFound}
 use Rattle.rules.specs.Areas.{resultBytes, boundBytes, Checked, Ran, Bounded, FillCalled}
 use Rattle.filling.specs.Sets.{accessesIn, setIn}
@@ -38,6 +40,10 @@ RunAs r f results work = (numbersIn f ≡ runNumbers r) × (results ≡ resultBy
 -- the answer r, unless a refusal was found
 unfoldable pub unlessRefused : Reply → Result → Result
 unlessRefused f r = cond (eqb (f .number) 0) r (refusedResult (numbersIn f))
+
+-- a run of the program P with a share of so many objects for the heap
+abbrev pub shareRun : ℕ → Program → ℕ → Result
+shareRun j P k = outcomeResult (runProgram (roomOf j) P k)
 
 -- a run of the program P by the lean machine
 abbrev pub leanRun : Program → ℕ → Result

@@ -1,6 +1,7 @@
 // The calls that a host links, `check`, `run`, `trial`, `lean`, `bound` and `fill`, and what the program prints. Each reads the text, does its work, and
-// clears the work area.
+// clears the work area. The module `counts` has `count`.
 mod bounds;
+mod counts;
 mod fills;
 mod leans;
 
@@ -18,14 +19,13 @@ use tables::Bytes;
 use tables::Layout;
 ghost use mathlib.Core.Path.{_≡_};
 ghost use mathlib.Core.List.{_∷_};
-ghost use Prim.Native.Nat.{_<_};
+ghost use Prim.Native.Nat.{_≤_, _<_};
 ghost use lib.ListN.{length};
-ghost use Rattle.rules.specs.Limits.{work-bytes, results-bytes};
+ghost use Rattle.rules.specs.Limits.{work-bytes, results-bytes, heap-objects};
 ghost use Rattle.rules.specs.Answers.{refusalNumber, then};
 ghost use Rattle.rules.specs.Reading.{readText};
 ghost use Rattle.rules.specs.Rules.{checkProgram};
-ghost use Rattle.rules.specs.Machine.{runProgram};
-ghost use Rattle.rules.specs.Calls.{verdictNumbers, checkText, wholeHeap, outcomeResult};
+ghost use Rattle.rules.specs.Calls.{verdictNumbers, checkText};
 ghost use Rattle.rules.specs.Areas.{packed, wordsBytes, checkCall, runCall, trialCall, leanCall, boundCall, fillCall};
 ghost use Rattle.rules.specs.Printed.{printed};
 ghost use Rattle.tables.specs.Numbers.{half-values};
@@ -37,7 +37,7 @@ ghost use Rattle.checker.specs.Checked as Checker;
 ghost use Rattle.machine.specs.Runs.{mainValues};
 ghost use Rattle.printer.specs.Writes.{Prints};
 ghost use Rattle.printer.specs.Answers.{out-bytes};
-ghost use Rattle.station.specs.Station.{numbersIn, Found, RunAs, unlessRefused, CheckLeaves, RunLeaves, BoundLeaves, FillLeaves};
+ghost use Rattle.station.specs.Station.{numbersIn, Found, RunAs, unlessRefused, shareRun, CheckLeaves, RunLeaves, BoundLeaves, FillLeaves};
 
 // A number of document 01's table, and the line that it goes with.
 pub struct Reply {
@@ -48,6 +48,9 @@ pub struct Reply {
 impl Reply {
     // Number 1 at line 0, as it is returned: a lent area of wrong length.
     const WRONG_LENGTH: u32 = Number::WRONG_LENGTH * Number::FACTOR;
+
+    // Number 19 at line 0: no scripts, too many, or shares that do not fit into the heap.
+    const WRONG_SHARES: u32 = Number::WRONG_SHARES * Number::FACTOR;
 }
 
 // NUMBERS
@@ -156,11 +159,12 @@ pub extern "C" fn check(text: &[u8], work: &mut [u8]) -> u32
 
 // RUN AND TRIAL
 
-fn run_tables(work: &mut [u8], steps: u32, results: &mut [u8]) -> Reply
-    requires { ⌜ Tables (now work) × (length (now results) ≡ results-bytes) ⌝ }
-    ensures { λ f. ⌜ RunAs (outcomeResult (runProgram wholeHeap (programIn (now (work .entry))) steps)) f (now (results .exit)) (now (work .exit)) ⌝ }
+// With a share of so many objects for the heap, and four times as many fields.
+fn run_tables(work: &mut [u8], steps: u32, share: u32, results: &mut [u8]) -> Reply
+    requires { ⌜ (Tables (now work) × (share ≤ heap-objects)) × (length (now results) ≡ results-bytes) ⌝ }
+    ensures { λ f. ⌜ RunAs (shareRun share (programIn (now (work .entry))) steps) f (now (results .exit)) (now (work .exit)) ⌝ }
 {
-    let r = machine::run(work, steps, Machine::OBJECTS as u32, Machine::FIELDS as u32);
+    let r = machine::run(work, steps, share, Machine::FIELDS_EACH as u32 * share);
     put_results(work, results, r.steps);
     let ending = r.ending;
     let number = machine::number_of(ending);
@@ -169,15 +173,15 @@ fn run_tables(work: &mut [u8], steps: u32, results: &mut [u8]) -> Reply
 }
 
 // Runs the tables, unless a refusal was found: then there are zeros in results.
-fn run_found(found: Reply, work: &mut [u8], steps: u32, results: &mut [u8]) -> Reply
-    requires { ⌜ (found .number ≡ 0 → Tables (now work)) × (length (now work) ≡ work-bytes) × (length (now results) ≡ results-bytes) ⌝ }
-    ensures { λ f. ⌜ RunAs (unlessRefused found (outcomeResult (runProgram wholeHeap (programIn (now (work .entry))) steps))) f (now (results .exit)) (now (work .exit)) ⌝ }
+fn run_found(found: Reply, work: &mut [u8], steps: u32, share: u32, results: &mut [u8]) -> Reply
+    requires { ⌜ (found .number ≡ 0 → Tables (now work)) × (share ≤ heap-objects) × (length (now work) ≡ work-bytes) × (length (now results) ≡ results-bytes) ⌝ }
+    ensures { λ f. ⌜ RunAs (unlessRefused found (shareRun share (programIn (now (work .entry))) steps)) f (now (results .exit)) (now (work .exit)) ⌝ }
 {
     if found.number != 0 {
         areas::clear(results);
         return found;
     }
-    run_tables(work, steps, results)
+    run_tables(work, steps, share, results)
 }
 
 // Runs main for at most so many steps, if check accepts the text: the number and line as for check; the steps taken and main's values in
@@ -190,7 +194,7 @@ pub extern "C" fn run(text: &[u8], work: &mut [u8], steps: u32, results: &mut [u
         return Reply::WRONG_LENGTH;
     }
     let found = check_text(text, work);
-    let f = run_found(found, work, steps, results);
+    let f = run_found(found, work, steps, Machine::OBJECTS as u32, results);
     areas::clear(work);
     pack(f)
 }
@@ -219,7 +223,7 @@ pub extern "C" fn trial(text: &[u8], work: &mut [u8], steps: u32, results: &mut 
         return Reply::WRONG_LENGTH;
     }
     let found = read_text(text, work);
-    let f = run_found(found, work, steps, results);
+    let f = run_found(found, work, steps, Machine::OBJECTS as u32, results);
     areas::clear(work);
     pack(f)
 }

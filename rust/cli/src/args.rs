@@ -18,6 +18,10 @@ pub struct Parsed {
     pub command: Command,
     pub operands: Vec<OsString>,
     pub steps: u32,
+    /// The rounds of a count.
+    pub rounds: u32,
+    /// The shares of its scripts, if they are given.
+    pub shares: Option<Vec<u32>>,
     pub colour: Colour,
     /// The file for the page of a report.
     pub html: Option<OsString>,
@@ -91,19 +95,48 @@ fn colour_of(word: &OsStr) -> Option<Colour> {
     }
 }
 
-/// Steps and colour; of two values the last counts.
-fn parsed_values(given: &[Given]) -> Result<(u32, Colour), Misuse> {
-    let mut steps = nuyardi::limits::PROGRAM_STEPS as u32;
-    let mut colour = Colour::Auto;
+/// Numbers parted by commas.
+fn numbers_of(word: &OsStr) -> Option<Vec<u32>> {
+    let numbers = word.to_str()?.split(',');
+    numbers.map(|number| number_of(number.as_ref())).collect()
+}
+
+/// The options that have a value, the file of a page apart.
+struct Values {
+    steps: u32,
+    rounds: u32,
+    shares: Option<Vec<u32>>,
+    colour: Colour,
+}
+
+/// Of two values the last counts.
+fn parsed_values(given: &[Given]) -> Result<Values, Misuse> {
+    let usual = nuyardi::limits::PROGRAM_STEPS as u32;
+    let mut values = Values {
+        steps: usual,
+        rounds: usual,
+        shares: None,
+        colour: Colour::Auto,
+    };
     for Given { spec, value } in given {
         let word = value.clone().unwrap_or_default();
         match spec.flag {
-            Flag::Steps => steps = number_of(&word).ok_or(Misuse::Steps(word))?,
-            Flag::Color => colour = colour_of(&word).ok_or(Misuse::Colour(word))?,
+            Flag::Steps => values.steps = number_of(&word).ok_or(Misuse::Steps(word))?,
+            Flag::Rounds => values.rounds = number_of(&word).ok_or(Misuse::Rounds(word))?,
+            Flag::Shares => values.shares = Some(numbers_of(&word).ok_or(Misuse::Shares(word))?),
+            Flag::Color => values.colour = colour_of(&word).ok_or(Misuse::Colour(word))?,
             _ => {}
         }
     }
-    Ok((steps, colour))
+    Ok(values)
+}
+
+/// Is there a share for each script, where shares are given?
+fn shares_fit(shares: Option<&Vec<u32>>, scripts: usize) -> Result<(), Misuse> {
+    match shares.map(Vec::len) {
+        Some(shares) if shares != scripts => Err(Misuse::SharesEach(shares, scripts)),
+        _ => Ok(()),
+    }
 }
 
 /// The operands, the command among them, and the options.
@@ -159,14 +192,16 @@ fn page_file(given: &[Given]) -> Result<Option<OsString>, Misuse> {
 /// Reads the command line.
 pub fn parse(words: impl Iterator<Item = OsString>) -> Result<Parsed, Misuse> {
     let (mut names, given) = split(words)?;
-    let (steps, colour) = parsed_values(&given)?;
+    let values = parsed_values(&given)?;
     let html = page_file(&given)?;
     let flags: Vec<Flag> = given.iter().map(|given| given.spec.flag).collect();
     let parsed = |command, operands| Parsed {
         command,
         operands,
-        steps,
-        colour,
+        steps: values.steps,
+        rounds: values.rounds,
+        shares: values.shares.clone(),
+        colour: values.colour,
         html: html.clone(),
         flags: flags.clone(),
     };
@@ -186,6 +221,7 @@ pub fn parse(words: impl Iterator<Item = OsString>) -> Result<Parsed, Misuse> {
     }
     let command = command_named(&names.remove(0))?;
     fits(command, &given, names.len())?;
+    shares_fit(values.shares.as_ref(), names.len())?;
     if flags.contains(&Flag::Check) && flags.contains(&Flag::Write) {
         return Err(Misuse::CheckAndWrite);
     }

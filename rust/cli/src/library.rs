@@ -2,7 +2,8 @@
 
 use crate::progress::Progress;
 use explain::Answers;
-use nuyardi::{Bound, Filled, NoBound, NotFilled, Outcome, Refusal, Station};
+use nuyardi::{Bound, Counted, Filled, NoBound, NotCounted, NotFilled, Outcome, Refusal};
+use nuyardi::{Share, Station};
 
 /// The library's answers, over areas that are kept from call to call.
 #[derive(Default)]
@@ -34,5 +35,10 @@ impl Answers for Library {
 
     fn fill<'t>(&mut self, text: &'t [u8]) -> Result<Filled<'t>, NotFilled> {
         self.0.fill(text)
+    }
+
+    fn count<'t>(&mut self, scripts: &[Share<'t>], rounds: u32) -> Result<Counted<'t>, NotCounted> {
+        let _progress = Progress::start(rounds);
+        self.0.count(scripts, rounds)
     }
 }

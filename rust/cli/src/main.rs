@@ -4,6 +4,7 @@
 mod args;
 mod authority;
 mod commands;
+mod counting;
 mod files;
 mod filling;
 mod fixing;
@@ -37,6 +38,7 @@ fn dispatch(session: &mut Session) -> Status {
             commands::run(session, asked)
         }
         Command::Trial => commands::run(session, Asked::Trial(steps)),
+        Command::Count => counting::count(session),
         Command::Trace => session.each(looking::trace_one),
         Command::Known => looking::known(session),
         Command::Draw => session.each(looking::draw_one),

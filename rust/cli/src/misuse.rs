@@ -22,6 +22,10 @@ pub enum Misuse {
     /// No value for an option that needs one.
     Unvalued(&'static OptionSpec),
     Steps(OsString),
+    Rounds(OsString),
+    Shares(OsString),
+    /// So many shares, and so many scripts.
+    SharesEach(usize, usize),
     Colour(OsString),
     /// What explain is asked.
     Number(OsString),
@@ -107,11 +111,17 @@ impl fmt::Display for Misuse {
             ),
             Misuse::Operands(command, given) => match command.operands {
                 "" => write!(f, "{} takes no operand", command.name),
-                operands => write!(
-                    f,
-                    "{} takes {operands}, and {given} were given",
-                    command.name
-                ),
+                operands => {
+                    let most = match command.most {
+                        1 | usize::MAX => String::new(),
+                        most => format!(", at most {most}"),
+                    };
+                    write!(
+                        f,
+                        "{} takes {operands}{most}, and {given} were given",
+                        command.name
+                    )
+                }
             },
             Misuse::Valued(option) => write!(f, "--{} takes no value", option.name),
             Misuse::Unvalued(option) => {
@@ -123,6 +133,27 @@ impl fmt::Display for Misuse {
                     "--steps takes 0 to {}, not \"{}\"",
                     u32::MAX,
                     shown(word)
+                )
+            }
+            Misuse::Rounds(word) => {
+                write!(
+                    f,
+                    "--rounds takes 0 to {}, not \"{}\"",
+                    u32::MAX,
+                    shown(word)
+                )
+            }
+            Misuse::Shares(word) => {
+                write!(
+                    f,
+                    "--shares takes a number for each script, parted by commas, not \"{}\"",
+                    shown(word)
+                )
+            }
+            Misuse::SharesEach(shares, scripts) => {
+                write!(
+                    f,
+                    "--shares takes a number for each script: scripts {scripts}, shares {shares}"
                 )
             }
             Misuse::Colour(word) => {

@@ -7,6 +7,7 @@ pub enum Command {
     Check,
     Run,
     Trial,
+    Count,
     Bound,
     Report,
     Trace,
@@ -27,6 +28,8 @@ pub enum Command {
 #[derive(Clone, Copy, Debug, PartialEq, Eq)]
 pub enum Flag {
     Steps,
+    Rounds,
+    Shares,
     Lean,
     Cards,
     Trial,
@@ -131,6 +134,14 @@ pub const COMMANDS: &[CommandSpec] = &[
         "run a script, also one that check refuses, to try it out",
         1,
         1,
+    ),
+    command(
+        Command::Count,
+        "count",
+        "FILE..",
+        "run 1 to 4 scripts over one heap, a step of each a round",
+        1,
+        nuyardi::limits::SCRIPTS,
     ),
     command(
         Command::Bound,
@@ -271,6 +282,20 @@ pub const OPTIONS: &[OptionSpec] = &[
         ],
     ),
     option(
+        Flag::Rounds,
+        "rounds",
+        Some("N"),
+        "do N rounds in place of 1,000",
+        &[Command::Count],
+    ),
+    option(
+        Flag::Shares,
+        "shares",
+        Some("K,K.."),
+        "objects of each script in place of equal parts of 256",
+        &[Command::Count],
+    ),
+    option(
         Flag::Lean,
         "lean",
         None,
@@ -359,6 +384,7 @@ pub const OPTIONS: &[OptionSpec] = &[
             Command::Check,
             Command::Run,
             Command::Trial,
+            Command::Count,
             Command::Bound,
             Command::Report,
             Command::Trace,

@@ -11,7 +11,8 @@ const FOOT: &str = "\
 FILE may be - for standard input. run, trace and draw refuse what check refuses.
 trial, and --trial, also run a text that check refuses with one of the numbers
 10 to 14, after saying so. run tests every permission; run --lean says the same
-without these tests, which an accepted script never fails.
+without these tests, which an accepted script never fails. count answers of each
+script what run answers of it alone, with its share for the heap.
 
 Exit status: 0 accepted, bounded, filled in or finished; 1 refused, without a
 bound, not filled in or stopped; 2 wrong use, or a file that can't be read or

@@ -39,6 +39,12 @@ fn statuses() {
         (&["draw", "examples/refused-04.script"], 1),
         (&["draw", "examples/lost.script"], 1),
         (&["draw", "--trial", "examples/lost.script"], 0),
+        (&["count", "examples/tag.script"], 0),
+        (&["count", "examples/tag.script", "examples/lost.script"], 1),
+        (&["count", "examples/tag.script", "no-such-file"], 2),
+        (&["count", "--shares", "257", "examples/tag.script"], 1),
+        (&["count", "--shares=1,1", "examples/tag.script"], 2),
+        (&["count", "--rounds=-1", "examples/tag.script"], 2),
         (&["fill", "examples/fill.script"], 0),
         (&["fill", "examples/refused-17.script"], 1),
         (&["fill", "examples/tag.script"], 1),
@@ -403,7 +409,7 @@ fn colour() {
 fn examples_of_explanations() {
     for known in nuyardi::EXPLANATIONS {
         let Some(example) = known.example else {
-            assert!(known.number < 3);
+            assert!(matches!(known.number, 0..3 | 19));
             continue;
         };
         let example = example.as_bytes();

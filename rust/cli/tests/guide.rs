@@ -235,6 +235,8 @@ fn json_fields() {
         "station draw --json examples/tag.script",
         "station fmt --json examples/tag.script",
         "station fix --json examples/lost.script",
+        "station count --json examples/north.script examples/lost.script",
+        "station count --json --shares 0 examples/north.script",
         "station fill --json examples/fill.script",
         "station fill --json examples/refused-17.script",
         "station explain --json 12",
@@ -291,6 +293,8 @@ fn limits() {
         FRAMES,
         BOUND,
         FILLED,
+        SCRIPTS,
+        FIELDS_EACH,
     ];
     assert_eq!(numbers, limits);
     for (said, size) in [

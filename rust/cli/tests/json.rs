@@ -216,7 +216,7 @@ fn anything() {
         b"\"\\\n",
     ] {
         let commands = [
-            "check", "run", "trial", "bound", "trace", "known", "draw", "fill",
+            "check", "run", "trial", "bound", "trace", "known", "draw", "fill", "count",
         ];
         for command in commands {
             let object = object(&[command, "--json", "-"], input);

@@ -1,7 +1,8 @@
 //! Who answers for a text: the proved library, or the model.
 
-use nuyardi::limits::{BOUNDS_BYTES, PLACES_BYTES, RESULTS_BYTES, WORK_BYTES};
-use nuyardi::{Bound, Filled, NoBound, NotFilled, Outcome, Refusal, Returned};
+use nuyardi::limits::{BOUNDS_BYTES, COUNT_BYTES, PLACES_BYTES, RESULTS_BYTES, WORK_BYTES};
+use nuyardi::{Bound, Counted, Filled, NoBound, NotCounted, NotFilled, Outcome, Refusal};
+use nuyardi::{Returned, Share};
 
 /// Who gives the numbers, lines, steps and values that are explained.
 pub trait Answers {
@@ -22,6 +23,9 @@ pub trait Answers {
 
     /// The permissions that a line `requires *` stands for.
     fn fill<'t>(&mut self, text: &'t [u8]) -> Result<Filled<'t>, NotFilled>;
+
+    /// Scripts over one heap, for at most so many rounds.
+    fn count<'t>(&mut self, scripts: &[Share<'t>], rounds: u32) -> Result<Counted<'t>, NotCounted>;
 }
 
 #[cfg(feature = "library")]
@@ -48,6 +52,10 @@ impl Answers for nuyardi::Station {
 
     fn fill<'t>(&mut self, text: &'t [u8]) -> Result<Filled<'t>, NotFilled> {
         nuyardi::Station::fill(self, text)
+    }
+
+    fn count<'t>(&mut self, scripts: &[Share<'t>], rounds: u32) -> Result<Counted<'t>, NotCounted> {
+        nuyardi::Station::count(self, scripts, rounds)
     }
 }
 
@@ -99,5 +107,16 @@ impl Answers for Model {
         let returned = Returned::of(model::fill_call(text, &mut work, &mut places));
         let filled = returned.filled(text, &places);
         filled.expect("a number of the table")
+    }
+
+    fn count<'t>(&mut self, scripts: &[Share<'t>], rounds: u32) -> Result<Counted<'t>, NotCounted> {
+        let script = |at: usize| scripts.get(at).copied().unwrap_or(Share::new(b"", 0));
+        let texts = std::array::from_fn(|at| script(at).text);
+        let shares = std::array::from_fn(|at| script(at).objects);
+        let (mut work, mut results) = (vec![0; WORK_BYTES], [0; COUNT_BYTES]);
+        let count = u32::try_from(scripts.len()).unwrap_or(u32::MAX);
+        let returned = model::count_call(count, rounds, texts, &mut work, shares, &mut results);
+        let counted = Returned::of(returned).counted(scripts, &results);
+        counted.expect("a number of the table")
     }
 }

@@ -10,6 +10,7 @@ use crate::script::{line, Script};
 use crate::show::{self, Paint};
 use crate::trace;
 use crate::{Answers, Model};
+use model::machine::Room;
 
 /// A trial and a run: the same, but of a text that check refuses. On the lean
 /// machine a person reads the same.
@@ -116,5 +117,8 @@ fn no_cause_of_another_answer() {
     assert!(crate::cause::cause(one, found).is_some());
     assert_eq!(crate::cause::cause(other, found), None);
     assert_eq!(crate::cause::cause(b"main\nend\n", found), None);
-    assert_eq!(crate::cause::stop_cause(b"main\nend\n", 0, 26), None);
+    assert_eq!(
+        crate::cause::stop_cause(b"main\nend\n", Room::WHOLE, 0, 26),
+        None
+    );
 }

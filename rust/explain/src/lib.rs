@@ -1,7 +1,8 @@
 //! What is to be said of a catalogue script beyond numbers and lines: the cause of
 //! a refusal or a stop and a fix that was tried, what the checker knows at a line, each
 //! step of a run, the cards as a table or a picture, the calls that a bound comes
-//! from, what a `requires *` stands for, and a text in its form; for people, and as
+//! from, what a `requires *` stands for, what becomes of the scripts of a count, and a
+//! text in its form; for people, and as
 //! JSON.
 //!
 //! ```
@@ -25,6 +26,7 @@ pub mod bound;
 pub mod cards;
 pub mod cause;
 pub mod chains;
+pub mod counting;
 pub mod draw;
 pub mod filling;
 pub mod fix;
@@ -46,6 +48,7 @@ pub mod trace;
 pub use answers::{Answers, Model};
 pub use bound::Bounded;
 pub use cause::Cause;
+pub use counting::Counting;
 pub use filling::Filling;
 pub use json::Json;
 pub use report::{Asked, Report};

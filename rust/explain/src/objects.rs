@@ -101,15 +101,13 @@ fn variables(ran: &Ran) -> Json {
     Json::List(variables.collect())
 }
 
-/// What a run or a trial gives, beside check's answer and the machine: the same
-/// fields whether the text was run or not.
-fn ran(object: Json, (call, machine): (&str, &str), report: &Report, allowed: u32) -> Json {
+/// What a run or a trial gives, beside check's answer: the same fields whether the
+/// text was run or not.
+fn ran(object: Json, report: &Report, allowed: u32) -> Json {
     let ran = report.ran.as_ref();
     let (number, line) = answer(report);
     let none = || Json::List(Vec::new());
     let object = object
-        .with("call", call)
-        .with("machine", machine)
         .with("check", check(Json::object(), report))
         .with("finished", ran.is_some_and(|ran| ran.outcome.finished()))
         .with("number", number)
@@ -131,12 +129,28 @@ fn answer(report: &Report) -> (u32, u32) {
 /// Check's answer, or that of check and run.
 pub fn report(report: &Report) -> Json {
     let object = Json::object().with("file", report.file);
+    let call = |call: &str, machine: &str| {
+        let object = object.clone();
+        object.with("call", call).with("machine", machine)
+    };
     let object = match report.asked {
         Asked::Check => check(object.with("call", "check"), report),
-        Asked::Run(allowed) => ran(object, ("run", "full"), report, allowed),
-        Asked::Lean(allowed) => ran(object, ("run", "lean"), report, allowed),
-        Asked::Trial(allowed) => ran(object, ("trial", "full"), report, allowed),
+        Asked::Run(allowed) => ran(call("run", "full"), report, allowed),
+        Asked::Lean(allowed) => ran(call("run", "lean"), report, allowed),
+        Asked::Trial(allowed) => ran(call("trial", "full"), report, allowed),
     };
+    worded(object, report)
+}
+
+/// A script of a count: what a run gives, and its share.
+pub fn counted(report: &Report, rounds: u32, share: u32) -> Json {
+    let object = Json::object().with("file", report.file);
+    let object = object.with("call", "count").with("share", share);
+    worded(ran(object, report, rounds), report)
+}
+
+/// The answer's number in words, and its line.
+fn worded(object: Json, report: &Report) -> Json {
     let (number, line) = answer(report);
     words(object, number).with_some("text", line_text(report.text, line))
 }

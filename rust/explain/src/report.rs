@@ -5,7 +5,8 @@ use crate::all::{further, Further};
 use crate::cause::{cause, explained, open_calls, stop_cause, Cause};
 use crate::fmt::formatted;
 use crate::Answers;
-use nuyardi::{Ending, Kind, Outcome, Refusal};
+use model::machine::Room;
+use nuyardi::{Ending, Kind, Outcome, Refusal, Share};
 
 /// What is asked of a text; the steps that are allowed.
 #[derive(Clone, Copy, Debug, PartialEq, Eq)]
@@ -53,13 +54,16 @@ pub struct Ran<'a> {
 }
 
 impl<'a> Ran<'a> {
-    fn of(text: &[u8], outcome: Outcome<'a>) -> Ran<'a> {
+    /// A run with so much of the heap.
+    fn of(text: &[u8], room: Room, outcome: Outcome<'a>) -> Ran<'a> {
         let stopped = matches!(outcome.ending(), Ending::Stopped(_));
         let (number, steps) = (outcome.number(), outcome.steps());
         // The model takes the steps again, which a run that finished need not wait for.
         let open = stopped.then(|| open_calls(text, steps)).flatten();
         Ran {
-            cause: stopped.then(|| stop_cause(text, steps, number)).flatten(),
+            cause: stopped
+                .then(|| stop_cause(text, room, steps, number))
+                .flatten(),
             open: open.unwrap_or_default(),
             outcome,
         }
@@ -125,6 +129,32 @@ impl<'a> Report<'a> {
         asked: Asked,
     ) -> Report<'a> {
         let (refusal, outcome) = answered(answers, text, asked);
+        let ran = outcome.map(|outcome| Ran::of(text, Room::WHOLE, outcome));
+        Report::with(answers, file, text, asked, (refusal, ran))
+    }
+
+    /// What a count of so many rounds says of one of its scripts.
+    pub fn counted(
+        answers: &mut impl Answers,
+        file: &'a str,
+        script: Share<'a>,
+        rounds: u32,
+        found: Result<Outcome<'a>, Refusal>,
+    ) -> Report<'a> {
+        let (text, room) = (script.text, Room::share(script.objects as usize));
+        let (refusal, outcome) = ran(found);
+        let ran = outcome.map(|outcome| Ran::of(text, room, outcome));
+        Report::with(answers, file, text, Asked::Run(rounds), (refusal, ran))
+    }
+
+    /// The answer with its cause.
+    fn with(
+        answers: &mut impl Answers,
+        file: &'a str,
+        text: &'a [u8],
+        asked: Asked,
+        (refusal, ran): (Option<Refusal>, Option<Ran<'a>>),
+    ) -> Report<'a> {
         let cause = refusal.and_then(|refusal| explained(answers, text, refusal));
         Report {
             file,
@@ -137,7 +167,7 @@ impl<'a> Report<'a> {
                 _ => Vec::new(),
             },
             formatted: refusal.and_then(|refusal| after_fmt(answers, text, refusal)),
-            ran: outcome.map(|outcome| Ran::of(text, outcome)),
+            ran,
         }
     }
 

@@ -6,6 +6,7 @@
 
 mod chains;
 mod contracts;
+pub mod days;
 mod establish;
 mod facts;
 mod forms;
@@ -102,6 +103,11 @@ pub fn accepted(seed: u64) -> Vec<u8> {
 /// A text for fill, of a seed: most have a `requires` to be filled in (W11).
 pub fn starred(seed: u64) -> Vec<u8> {
     stars::starred(&mut Rng::new(seed))
+}
+
+/// What a count of a seed is called with (W12).
+pub fn count_day(seed: u64) -> days::CountDay {
+    days::CountDay::random(&mut Rng::new(seed))
 }
 
 /// How many steps to allow: few, the program's 1,000, or many.

@@ -1,12 +1,19 @@
 //! The comparison of the tests, for as long as one likes.
 //!
-//! `cargo run --release --example compare [FIRST] [SEEDS] [starred]`: so many seeds
-//! (10,000) from a first one (50,000, where the tests end), twenty texts each; with
-//! the last word they are texts for fill. How far it is goes to standard error. Exit status 1 if library and model differ; the text
-//! is then shown, reduced.
+//! `cargo run --release --example compare [FIRST] [SEEDS] [WHAT]`: so many seeds
+//! (10,000) from a first one (50,000, where the tests end), twenty texts each. WHAT
+//! is `starred` for texts for fill, or `counts` for counts, one each. How far it is
+//! goes to standard error. Exit status 1 if library and model differ; the text is
+//! then shown, reduced.
 
 #[path = "../tests/support/compare.rs"]
 mod compare;
+#[path = "../tests/support/days.rs"]
+mod days;
+
+use compare::{compare_seeds, Numbers, Texts, CALLS, NUMBERS};
+use std::fmt::Display;
+use std::ops::Range;
 
 /// The seeds after which it is told how far the comparison is.
 const TOLD: u64 = 5_000;
@@ -15,17 +22,26 @@ fn main() {
     let mut words = std::env::args().skip(1);
     let first = compare::number_or(50_000, words.next());
     let seeds = compare::number_or(10_000, words.next());
-    let texts = match words.next().as_deref() {
-        Some("starred") => compare::Texts::Starred,
-        _ => compare::Texts::Any,
-    };
-    let end = first.saturating_add(seeds);
+    let seeds = first..first.saturating_add(seeds);
+    match words.next().as_deref() {
+        Some("counts") => in_parts(seeds, ["count", "script"], days::compare_days),
+        Some("starred") => in_parts(seeds, CALLS, |part| compare_seeds(Texts::Starred, part)),
+        _ => in_parts(seeds, CALLS, |part| compare_seeds(Texts::Any, part)),
+    }
+}
+
+/// Compares part by part, and tells how often each call gave each number.
+fn in_parts<const N: usize, D: Display>(
+    seeds: Range<u64>,
+    calls: [&str; N],
+    compare: impl Fn(Range<u64>) -> Result<Numbers<N>, D>,
+) {
     let start = std::time::Instant::now();
-    let mut counts = compare::NONE;
-    let mut at = first;
-    while at < end {
-        let next = end.min(at.saturating_add(TOLD));
-        match compare::compare_seeds(texts, at..next) {
+    let mut counts = [[0; NUMBERS]; N];
+    let mut at = seeds.start;
+    while at < seeds.end {
+        let next = seeds.end.min(at.saturating_add(TOLD));
+        match compare(at..next) {
             Ok(more) => compare::add(&mut counts, &more),
             Err(difference) => {
                 println!("{difference}");
@@ -33,23 +49,21 @@ fn main() {
             }
         }
         at = next;
-        let (texts, seconds) = (counts[0].iter().sum::<u64>(), start.elapsed().as_secs());
-        eprintln!("{texts} texts, {seconds} s");
+        let (all, seconds) = (counts[0].iter().sum::<u64>(), start.elapsed().as_secs());
+        eprintln!("{all} compared, {seconds} s");
     }
-    told(&counts);
+    told(calls, &counts);
 }
 
 /// How often each call gave each number.
-fn told(counts: &compare::Counts) {
-    println!("{} texts, no difference", counts[0].iter().sum::<u64>());
-    for number in 0..compare::NUMBERS {
-        let given: Vec<String> = compare::CALLS
-            .iter()
-            .zip(counts)
-            .map(|(call, counts)| format!("{call} {:>9}", counts[number]))
-            .collect();
+fn told<const N: usize>(calls: [&str; N], counts: &Numbers<N>) {
+    println!("{} compared, no difference", counts[0].iter().sum::<u64>());
+    for number in 0..NUMBERS {
+        let each = calls.iter().zip(counts);
+        let given = each.map(|(call, counts)| format!("{call} {:>9}", counts[number]));
+        let given = given.collect::<Vec<String>>().join(", ");
         if counts.iter().any(|counts| counts[number] > 0) {
-            println!("{number:>2}: {}", given.join(", "));
+            println!("{number:>2}: {given}");
         }
     }
 }

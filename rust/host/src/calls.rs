@@ -1,9 +1,11 @@
 //! The C functions of libnuyardi.a, declared once, and over Rust slices.
 //!
 //! Most callers want [`crate::check`], [`crate::run`], [`crate::trial`],
-//! [`crate::lean`], [`crate::bound`] and [`crate::fill`]. The functions here are for
-//! those who lend areas of their own and want what comes back as it is.
+//! [`crate::lean`], [`crate::bound`], [`crate::fill`] and [`crate::count`]. The
+//! functions here are for those who lend areas of their own and want what comes back
+//! as it is.
 
+use crate::limits::SCRIPTS;
 use crate::Returned;
 
 /// The functions as C has them. A null text is allowed with length 0; the areas
@@ -58,6 +60,26 @@ pub mod raw {
             work_len: usize,
             places: *mut u8,
             places_len: usize,
+        ) -> u32;
+        pub fn station_count(
+            scripts: u32,
+            rounds: u32,
+            text1: *const u8,
+            text1_len: usize,
+            text2: *const u8,
+            text2_len: usize,
+            text3: *const u8,
+            text3_len: usize,
+            text4: *const u8,
+            text4_len: usize,
+            work: *mut u8,
+            work_len: usize,
+            share1: u32,
+            share2: u32,
+            share3: u32,
+            share4: u32,
+            results: *mut u8,
+            results_len: usize,
         ) -> u32;
     }
 
@@ -203,6 +225,59 @@ fn told(call: raw::Tells, text: &[u8], work: &mut [u8], area: &mut [u8]) -> Retu
             work.len(),
             area.as_mut_ptr(),
             area.len(),
+        )
+    })
+}
+
+/// Runs the first so many of four texts over one heap, one step of each a round, each
+/// with its share of the heap, and a results area of
+/// [`COUNT_BYTES`](crate::limits::COUNT_BYTES) bytes: for each text what [`run`] returns
+/// for it alone, with its share for the heap and the rounds as steps, then what it
+/// leaves. Texts and shares past the count are not looked at.
+///
+/// ```
+/// use nuyardi::limits::{COUNT_BYTES, SCRIPT_BYTES, WORK_BYTES};
+/// let (mut work, mut results) = (vec![0; WORK_BYTES], [0xa5; COUNT_BYTES]);
+/// let one = b"class\tS\nmain\nvar\tS\ts\nnew\ts\tS\nnew\ts\tS\nend\n";
+/// let texts = [&one[..], b"main\nend\n", b"", b""];
+/// let returned = nuyardi::calls::count(2, 9, texts, &mut work, [1, 255, 0, 0], &mut results);
+/// assert_eq!(returned.word(), 0);
+/// // The first stops with 22 at line 5 after one step, the second finishes at line 2.
+/// assert_eq!(results[..12], [5, 0, 22, 0, 1, 0, 0, 0, 1, 0, 0, 0]);
+/// assert_eq!(results[SCRIPT_BYTES..][..8], [2, 0, 0, 0, 1, 0, 0, 0]);
+/// assert!(results[2 * SCRIPT_BYTES..].iter().all(|&byte| byte == 0));
+/// ```
+pub fn count(
+    scripts: u32,
+    rounds: u32,
+    texts: [&[u8]; SCRIPTS],
+    work: &mut [u8],
+    shares: [u32; SCRIPTS],
+    results: &mut [u8],
+) -> Returned {
+    let [text1, text2, text3, text4] = texts;
+    let [share1, share2, share3, share4] = shares;
+    // SAFETY: as in `over`; the texts are only read, and may be one.
+    Returned::of(unsafe {
+        raw::station_count(
+            scripts,
+            rounds,
+            text1.as_ptr(),
+            text1.len(),
+            text2.as_ptr(),
+            text2.len(),
+            text3.as_ptr(),
+            text3.len(),
+            text4.as_ptr(),
+            text4.len(),
+            work.as_mut_ptr(),
+            work.len(),
+            share1,
+            share2,
+            share3,
+            share4,
+            results.as_mut_ptr(),
+            results.len(),
         )
     })
 }

@@ -62,7 +62,7 @@ pub const EXPLANATIONS: &[Explanation] = &[
         title: "accepted, or finished",
         meaning: "Check accepts the text: its runs never lack a permission, follow null or meet \
                   a false formula. A run has done main's `end`. Bound gives the most steps, and \
-                  fill the permissions.",
+                  fill the permissions. Count has run its scripts, each with an answer of its own.",
         mend: "there is nothing to mend",
         example: None,
     },
@@ -72,7 +72,7 @@ pub const EXPLANATIONS: &[Explanation] = &[
         meaning: "The program that calls the library lent it an area of another length than it \
                   takes. No script can cause this.",
         mend: "lend 65,536 bytes to work in, 52 bytes for results, 8 bytes for bounds and 4 bytes \
-               for places",
+               for places, and 224 bytes for the results of a count",
         example: None,
     },
     Explanation {
@@ -255,20 +255,31 @@ pub const EXPLANATIONS: &[Explanation] = &[
         example: example!("refused-18"),
     },
     Explanation {
+        number: 19,
+        title: "a count without scripts, or with shares that do not fit",
+        meaning: "A count takes 1 to 4 scripts, and gives each a share of the 256 objects, at least 1. \
+                  There is no script, or a fifth, a share is 0, or the shares are above 256 \
+                  together. No script is read. Only count refuses so.",
+        mend: "give at most 4 scripts, each a share of 1 or more objects, at most 256 in all",
+        example: None,
+    },
+    Explanation {
         number: 21,
         title: "the allowed steps are taken",
         meaning: "Each statement line is a step, `else`, `join` and `end` too; `return` is one, and \
                   the method's `end` none after it; in a loop each `again` is one, and each arrival \
-                  at the `loop`. The line given is the one that would have come next.",
+                  at the `loop`. In a count each round is one for each script. The line given is the \
+                  one that would have come next.",
         mend: "allow more steps, or look for a loop that never ends or a method that calls itself without end",
         example: example!("stopped-21"),
     },
     Explanation {
         number: 22,
         title: "the heap is full",
-        meaning: "A run makes at most 256 objects with 1,024 fields in all. Objects are never taken \
-                  back.",
-        mend: "make fewer objects, or classes with fewer fields",
+        meaning: "A run makes at most 256 objects with 1,024 fields in all, a script of a count as many \
+                  objects as its share has, with 4 times as many fields. Objects are never taken back.",
+        mend: "make fewer objects, or classes with fewer fields; in a count, give the script a larger \
+               share",
         example: example!("stopped-22"),
     },
     Explanation {

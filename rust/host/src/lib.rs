@@ -34,6 +34,7 @@ mod bound;
 #[cfg(feature = "library")]
 #[allow(missing_docs)]
 pub mod calls;
+mod counted;
 mod explain;
 mod filled;
 pub mod limits;
@@ -45,9 +46,10 @@ mod returned;
 mod station;
 
 pub use bound::{Bound, NoBound};
+pub use counted::{Counted, Share};
 pub use explain::{explain, Explanation, EXPLANATIONS};
 pub use filled::{Filled, NotFilled, Permission};
-pub use numbers::{AcceptedStop, Excess, Kind, Lack, Stop};
+pub use numbers::{AcceptedStop, Excess, Kind, Lack, NotCounted, Stop};
 pub use outcome::{AcceptedEnding, Ending, Outcome, Value, Variable};
 pub use refusal::Refusal;
 pub use returned::Returned;
@@ -128,4 +130,19 @@ pub fn bound(text: &[u8]) -> Result<Bound, NoBound> {
 #[cfg(feature = "library")]
 pub fn fill(text: &[u8]) -> Result<Filled<'_>, NotFilled> {
     Station::new().fill(text)
+}
+
+/// Up to four scripts over one heap, one step of each a round; see [`Station::count`].
+///
+/// ```
+/// use nuyardi::Share;
+/// let scripts = [Share::new(b"main\nend\n", 128), Share::new(b"main\n", 128)];
+/// let counted = nuyardi::count(&scripts, 1_000)?;
+/// let ended: Vec<bool> = counted.scripts().map(|script| script.is_ok()).collect();
+/// assert_eq!(ended, [true, false]);
+/// # Ok::<(), nuyardi::NotCounted>(())
+/// ```
+#[cfg(feature = "library")]
+pub fn count<'t>(scripts: &[Share<'t>], rounds: u32) -> Result<Counted<'t>, NotCounted> {
+    Station::new().count(scripts, rounds)
 }

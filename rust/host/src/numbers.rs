@@ -83,6 +83,16 @@ numbered! {
 }
 
 numbered! {
+    /// The reason for which no script of a count is run.
+    NotCounted {
+        /// 19: there is no script, there are more than
+        /// [`SCRIPTS`](crate::limits::SCRIPTS), a share is 0, or the shares are above
+        /// [`OBJECTS`](crate::limits::OBJECTS) together.
+        Shares = 19,
+    }
+}
+
+numbered! {
     /// Why the machine stopped before main's `end` was done.
     Stop {
         /// 21: the allowed steps are taken.

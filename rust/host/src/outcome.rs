@@ -39,7 +39,6 @@ pub enum AcceptedEnding {
 }
 
 impl AcceptedEnding {
-    #[cfg(feature = "library")]
     pub(crate) fn of(number: u32) -> Option<AcceptedEnding> {
         match number {
             0 => Some(AcceptedEnding::Finished),

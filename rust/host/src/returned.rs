@@ -1,7 +1,8 @@
 //! What a call returns, taken apart.
 
-use crate::limits::{BOUNDS_BYTES, PLACES_BYTES, RESULTS_BYTES};
-use crate::{Bound, Ending, Filled, Kind, NoBound, NotFilled, Outcome, Refusal};
+use crate::limits::{BOUNDS_BYTES, COUNT_BYTES, PLACES_BYTES, RESULTS_BYTES};
+use crate::{Bound, Counted, Ending, Filled, Kind, NoBound, NotCounted, NotFilled, Outcome};
+use crate::{Refusal, Share};
 use core::fmt;
 
 /// What a call returns: number × 65,536 + line.
@@ -88,6 +89,26 @@ impl Returned {
         places: &[u8; PLACES_BYTES],
     ) -> Option<Result<Filled<'t>, NotFilled>> {
         Filled::of(self, text, places)
+    }
+
+    /// What became of the scripts of a count, with what the call left in the results
+    /// area; none for a number that count does not return.
+    ///
+    /// ```
+    /// use nuyardi::{limits, Returned, Share};
+    /// let mut results = [0; limits::COUNT_BYTES];
+    /// (results[0], results[4]) = (2, 1);
+    /// let scripts = [Share::new(b"main\nend\n", 256)];
+    /// let counted = Returned::of(0).counted(&scripts, &results).unwrap().unwrap();
+    /// let outcome = counted.scripts().next().unwrap().unwrap();
+    /// assert_eq!(outcome.to_string(), "finished at line 2 after 1 step");
+    /// ```
+    pub fn counted<'t>(
+        self,
+        scripts: &[Share<'t>],
+        results: &[u8; COUNT_BYTES],
+    ) -> Option<Result<Counted<'t>, NotCounted>> {
+        Counted::of(self, scripts, results)
     }
 }
 

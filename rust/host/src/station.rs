@@ -1,9 +1,11 @@
 //! The calls with areas of their own.
 
-use crate::limits::{BOUNDS_BYTES, PLACES_BYTES, RESULTS_BYTES, WORK_BYTES};
+use crate::counted::apart;
+use crate::limits::{BOUNDS_BYTES, COUNT_BYTES, PLACES_BYTES, RESULTS_BYTES, WORK_BYTES};
 use crate::numbers::known;
 use crate::outcome::{AcceptedEnding, Ending};
-use crate::{calls, Bound, Filled, NoBound, NotFilled, Outcome, Refusal, Returned};
+use crate::{calls, Bound, Counted, Filled, NoBound, NotCounted, NotFilled, Outcome, Refusal};
+use crate::{Returned, Share};
 use core::borrow::BorrowMut;
 use core::fmt;
 
@@ -237,6 +239,43 @@ impl<W: BorrowMut<[u8; WORK_BYTES]>> Station<W> {
         let mut places = [0; PLACES_BYTES];
         let returned = calls::fill(text, self.work.borrow_mut(), &mut places);
         known(returned.filled(text, &places), returned.number())
+    }
+
+    /// Runs up to [`SCRIPTS`](crate::limits::SCRIPTS) scripts over one heap, one step of
+    /// each a round, in order, for at most so many rounds. A script that is refused,
+    /// finished or stopped is passed over. What becomes of each is the same whatever
+    /// the others do, by a theorem: what [`Station::run`] answers of it alone, with its
+    /// share for the heap and the rounds as steps.
+    ///
+    /// ```
+    /// use nuyardi::{Kind, Share};
+    /// let mut station = nuyardi::Station::new();
+    /// let text = b"class\tS\nmain\nvar\tS\ts\nnew\ts\tS\nnew\ts\tS\nend\n";
+    /// let scripts = [(&text[..], 1), (text, 255)].map(|(text, share)| Share::new(text, share));
+    /// let counted = station.count(&scripts, 1_000)?;
+    /// let said = counted.scripts().map(|script| script.unwrap().number());
+    /// assert_eq!(said.collect::<Vec<u32>>(), [22, 0]);
+    ///
+    /// assert!(station.count(&[], 1_000).is_err());
+    /// assert!(station.count(&[Share::new(text, 257)], 1_000).is_err());
+    /// # Ok::<(), nuyardi::NotCounted>(())
+    /// ```
+    ///
+    /// # Errors
+    ///
+    /// No script is read if there is none, if there are more than four, if a share is
+    /// 0, or if the shares are above [`OBJECTS`](crate::limits::OBJECTS) together.
+    pub fn count<'t>(
+        &mut self,
+        scripts: &[Share<'t>],
+        rounds: u32,
+    ) -> Result<Counted<'t>, NotCounted> {
+        let (texts, shares) = apart(scripts);
+        let mut results = [0; COUNT_BYTES];
+        let count = u32::try_from(scripts.len()).unwrap_or(u32::MAX);
+        let work = self.work.borrow_mut();
+        let returned = calls::count(count, rounds, texts, work, shares, &mut results);
+        known(returned.counted(scripts, &results), returned.number())
     }
 }
 

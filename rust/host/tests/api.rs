@@ -3,11 +3,11 @@
 use generator::{self as gen, rng::Rng};
 use model::names::{Atom, Declared, Type, THIS};
 use nuyardi::{AcceptedEnding, AcceptedStop, Ending, Excess, Filled, Kind, Lack, NoBound};
-use nuyardi::{NotFilled, Outcome, Station, Stop, Value};
+use nuyardi::{NotCounted, NotFilled, Outcome, Share, Station, Stop, Value};
 use std::collections::BTreeSet;
 
 /// Every number that a call returns is explained: 0, 1, and those of the kinds,
-/// excesses, lacks and stops, each of which is found by its number.
+/// excesses, lacks, counts and stops, each of which is found by its number.
 #[test]
 fn numbers_and_kinds() {
     let kinds = Kind::ALL.iter().map(|kind| kind.number());
@@ -15,7 +15,8 @@ fn numbers_and_kinds() {
     let lacks = Lack::ALL.iter().map(|lack| lack.number());
     let stops = Stop::ALL.iter().map(|stop| stop.number());
     let texts = [0, 1].into_iter().chain(kinds).chain(excesses);
-    let returned: Vec<u32> = texts.chain(lacks).chain(stops).collect();
+    let counts = NotCounted::ALL.iter().map(|none| none.number());
+    let returned: Vec<u32> = texts.chain(lacks).chain(counts).chain(stops).collect();
     assert!(returned.windows(2).all(|pair| pair[0] < pair[1]));
     let explained: Vec<u32> = nuyardi::EXPLANATIONS
         .iter()
@@ -26,9 +27,10 @@ fn numbers_and_kinds() {
         let kind = Kind::of(number).map(Kind::number);
         let excess = Excess::of(number).map(Excess::number);
         let lack = Lack::of(number).map(Lack::number);
+        let none = NotCounted::of(number).map(NotCounted::number);
         let stop = Stop::of(number).map(Stop::number);
         assert_eq!(
-            kind.or(excess).or(lack).or(stop),
+            kind.or(excess).or(lack).or(none).or(stop),
             returned[2..].contains(&number).then_some(number)
         );
     }
@@ -69,6 +71,7 @@ fn sizes_in_words() {
         }
     };
     said(1, &[WORK_BYTES, RESULTS_BYTES, BOUNDS_BYTES, PLACES_BYTES]);
+    said(1, &[COUNT_BYTES]);
     said(2, &[TEXT_BYTES]);
     said(4, &[ATOMS, NAME_BYTES]);
     said(
@@ -78,7 +81,8 @@ fn sizes_in_words() {
     said(14, &[PERMISSIONS, FACTS]);
     said(16, &[BOUND]);
     said(17, &[FILLED]);
-    said(22, &[OBJECTS, FIELDS]);
+    said(19, &[SCRIPTS, OBJECTS]);
+    said(22, &[OBJECTS, FIELDS, FIELDS_EACH]);
     said(23, &[FRAMES, FRAMES - 1]);
 }
 
@@ -307,6 +311,72 @@ fn fills_in_words() {
     assert!(none.starts_with(starts), "{none}");
     assert!(said(b"main\nend\n").starts_with("no `requires *` to be filled in, or a second one"));
     assert!(said(b"main\nend").starts_with("line 2: a byte that may not stand in a text"));
+}
+
+/// Counts of up to four scripts: each as run has it alone, where the share is the
+/// whole heap or the run stays within it.
+#[test]
+fn generated_counts() {
+    let mut station = Station::new();
+    let (mut counted, mut alone, mut refused) = (0, 0, 0);
+    for seed in 1_300_000..1_301_500 {
+        let day = gen::count_day(seed);
+        let scripts = day.texts.iter().zip(day.shares).cycle();
+        let scripts = scripts.map(|(text, share)| Share::new(text, share));
+        let scripts: Vec<Share> = scripts.take(day.scripts.min(5) as usize).collect();
+        let texts = day.texts.each_ref().map(Vec::as_slice);
+        let model = model::count(day.scripts.min(5), day.rounds, texts, day.shares);
+        let found = station.count(&scripts, day.rounds);
+        assert_eq!(found, nuyardi::count(&scripts, day.rounds));
+        let Ok(found) = found else {
+            assert_eq!(found, Err(NotCounted::Shares));
+            assert_eq!(model.number, NotCounted::Shares.number());
+            refused += 1;
+            continue;
+        };
+        assert_eq!((model.number, found.scripts().count()), (0, scripts.len()));
+        for ((ended, script), run) in found.scripts().zip(&scripts).zip(model.scripts) {
+            let answer = match ended {
+                Ok(outcome) => (outcome.number(), outcome.line(), outcome.steps()),
+                Err(refusal) => (refusal.number(), refusal.line(), 0),
+            };
+            assert_eq!(answer, (run.number, run.line, run.steps));
+            counted += 1;
+            if run.number != Stop::HeapFull.number() {
+                assert_eq!(ended, station.run(script.text, day.rounds));
+                alone += 1;
+            }
+        }
+    }
+    assert!(refused > 20 && alone > 2_000 && counted - alone > 100);
+}
+
+/// No script, a fifth, and shares that do not fit.
+#[test]
+fn counts_that_are_none() {
+    let share = |objects| Share::new(b"main\nend\n", objects);
+    let five = [share(1); 5];
+    let all: [&[Share]; 5] = [
+        &[],
+        &five,
+        &[share(0)],
+        &[share(257)],
+        &[share(u32::MAX); 2],
+    ];
+    for scripts in all {
+        assert_eq!(nuyardi::count(scripts, 9), Err(NotCounted::Shares));
+    }
+    let counted = nuyardi::count(&five[..4], 9).expect("shares that fit");
+    let shown = format!("{counted:?}");
+    assert_eq!(
+        shown.matches("ending: Finished, line: 2, steps: 1").count(),
+        4,
+        "{shown}"
+    );
+    let none = NotCounted::Shares.to_string();
+    assert!(
+        none.starts_with("a count without scripts, or with shares that do not fit (number 19); ")
+    );
 }
 
 /// A refusal is an error that can be passed on.

@@ -6,7 +6,7 @@ mod c;
 #[path = "support/workloads.rs"]
 mod workloads;
 
-use nuyardi::{limits, Excess, Kind, Lack, Stop};
+use nuyardi::{limits, Excess, Kind, Lack, NotCounted, Stop};
 use std::collections::BTreeMap;
 use std::path::Path;
 use std::process::Command;
@@ -37,6 +37,10 @@ fn sizes() {
         ("VALUES", limits::VALUES),
         ("BOUND", limits::BOUND),
         ("FILLED", limits::FILLED),
+        ("SCRIPTS", limits::SCRIPTS),
+        ("SCRIPT_BYTES", limits::SCRIPT_BYTES),
+        ("COUNT_BYTES", limits::COUNT_BYTES),
+        ("FIELDS_EACH", limits::FIELDS_EACH),
         ("OBJECTS", limits::OBJECTS),
         ("FIELDS", limits::FIELDS),
         ("FRAMES", limits::FRAMES),
@@ -44,6 +48,8 @@ fn sizes() {
     ]);
     assert_eq!(sizes, machine);
     assert_eq!(limits::RESULTS_BYTES, 4 * (1 + limits::VALUES));
+    assert_eq!(limits::SCRIPT_BYTES, 4 + limits::RESULTS_BYTES);
+    assert_eq!(limits::COUNT_BYTES, limits::SCRIPTS * limits::SCRIPT_BYTES);
 }
 
 /// The model, made from document 01 alone, has the same limits.
@@ -72,6 +78,10 @@ fn limits_of_the_model() {
         (limits::BOUND, model::BOUND as usize),
         (limits::PLACES_BYTES, model::PLACE_BYTES),
         (limits::FILLED, model::FILLED_ATOMS),
+        (limits::SCRIPTS, model::SCRIPTS),
+        (limits::SCRIPT_BYTES, model::SCRIPT_BYTES),
+        (limits::COUNT_BYTES, model::COUNT_BYTES),
+        (limits::FIELDS_EACH, model::SHARE_FIELDS),
         (limits::PROGRAM_STEPS, model::PROGRAM_STEPS as usize),
     ];
     for (at, (ours, theirs)) in pairs.into_iter().enumerate() {
@@ -113,12 +123,16 @@ fn numbers() {
     let lacks = Lack::ALL
         .iter()
         .map(|lack| (format!("{lack:?}"), lack.number()));
+    let counts = NotCounted::ALL
+        .iter()
+        .map(|none| (format!("{none:?}"), none.number()));
     let stops = Stop::ALL
         .iter()
         .map(|stop| (format!("{stop:?}"), stop.number()));
     let cases = kinds
         .chain(excesses)
         .chain(lacks)
+        .chain(counts)
         .chain(stops)
         .map(|(name, number)| (in_capitals(&name), number));
     assert_eq!(named, own.into_iter().chain(cases).collect::<Vec<_>>());
@@ -236,7 +250,8 @@ fn stack() {
     let output = output.expect("the program");
     assert!(output.status.success());
     let printed = String::from_utf8_lossy(&output.stdout);
-    let mut most = ["check", "run", "trial", "bound", "lean", "fill"].map(|call| (call, 0));
+    let mut most =
+        ["check", "run", "trial", "bound", "lean", "fill", "count"].map(|call| (call, 0));
     let mut rows = 0;
     for line in printed.lines() {
         let mut words = line.split(' ').map(|word| word.parse::<usize>());

@@ -4,78 +4,105 @@
 mod cases;
 #[path = "support/compare.rs"]
 mod compare;
+#[path = "support/days.rs"]
+mod days;
 
-use cases::Case;
+use cases::{Case, Given};
 use compare::{
     compare_seeds, lean_of, run_of, trial_of, Call, Comparer, Counts, Runs, Texts, BOUND, CHECK,
     FILLED,
 };
+use days::{compare_days, DayComparer};
+use generator::days::CountDay;
 use nuyardi::calls::raw;
-use nuyardi::limits::{BOUNDS_BYTES, PLACES_BYTES, RESULTS_BYTES, TEXT_BYTES, WORK_BYTES};
+use nuyardi::limits::WORK_BYTES;
+use nuyardi::limits::{BOUNDS_BYTES, COUNT_BYTES, PLACES_BYTES, RESULTS_BYTES, TEXT_BYTES};
 use nuyardi::Returned;
 use std::ops::RangeInclusive;
 use std::path::Path;
 
-/// The call of a case; none if it is of the program.
-fn call_of(case: &Case) -> Option<Call> {
+/// The call of a case on one text; none if it is of a program or of a count.
+fn call_of(case: &Case) -> Option<(&[u8], Call)> {
     let mut lengths = case.lengths.iter().copied();
     let mut length = |usual| lengths.next().unwrap_or(usual);
     let work = length(WORK_BYTES);
-    match (case.call.as_str(), case.steps) {
-        ("check", None) => Some(Call::Check { work }),
-        ("bound", None) => Some(Call::Bound {
-            work,
-            bounds: length(BOUNDS_BYTES),
-        }),
-        ("fill", None) => Some(Call::Fill {
-            work,
-            places: length(PLACES_BYTES),
-        }),
-        (name @ ("run" | "trial" | "lean"), Some(steps)) => Some(Call::Run {
-            by: match name {
-                "run" => Runs::Run,
-                "trial" => Runs::Trial,
-                _ => Runs::Lean,
-            },
-            work,
-            steps,
-            results: length(RESULTS_BYTES),
-        }),
+    Some(match (case.call.as_str(), &case.given) {
+        ("check", Given::Text(text)) => (text, Call::Check { work }),
+        ("bound", Given::Text(text)) => {
+            let bounds = length(BOUNDS_BYTES);
+            (text, Call::Bound { work, bounds })
+        }
+        ("fill", Given::Text(text)) => {
+            let places = length(PLACES_BYTES);
+            (text, Call::Fill { work, places })
+        }
+        (name, Given::Steps(steps, text)) => {
+            let call = Call::Run {
+                by: Runs::named(name)?,
+                work,
+                steps: *steps,
+                results: length(RESULTS_BYTES),
+            };
+            (text, call)
+        }
+        _ => return None,
+    })
+}
+
+/// The count of a case, with the lengths of its areas.
+fn day_of(case: &Case) -> Option<(&CountDay, [usize; 2])> {
+    let mut lengths = case.lengths.iter().copied();
+    let mut length = |usual| lengths.next().unwrap_or(usual);
+    match &case.given {
+        Given::Count(day) if case.call == "count" => {
+            Some((day, [length(WORK_BYTES), length(COUNT_BYTES)]))
+        }
         _ => None,
     }
 }
 
-/// Every line of the model's files, but for those of the program, which has a
-/// test of its own (`program.rs`). The model's tests hold it to the answers that
+/// Library and model on a case; false if it is of a program.
+fn compared(case: &Case, comparer: &mut Comparer, days: &mut DayComparer) -> bool {
+    if let Some((text, call)) = call_of(case) {
+        if let Err(difference) = comparer.call(text, call) {
+            panic!("{difference}");
+        }
+    } else if let Some((day, lengths)) = day_of(case) {
+        if let Err(difference) = days.call(day, lengths) {
+            panic!("{difference}");
+        }
+    } else {
+        return false;
+    }
+    true
+}
+
+/// Every line of the model's files, but for those of the programs, which have
+/// tests of their own (`program.rs`). The model's tests hold it to the answers that
 /// stand there.
 #[test]
 fn every_case() {
-    let mut comparer = Comparer::new(1);
+    let (mut comparer, mut days) = (Comparer::new(1), DayComparer::new(1));
     for file in cases::files() {
-        let (mut compared, mut programs) = (0, 0);
+        let mut all = 0;
         for case in file.cases() {
-            let Some(call) = call_of(&case) else {
-                programs += usize::from(case.is_program());
-                continue;
-            };
-            compared += 1;
-            if let Err(difference) = comparer.call(&case.text, call) {
-                panic!("{difference}");
-            }
+            let known = compared(&case, &mut comparer, &mut days);
+            all += usize::from(known || case.is_program());
         }
         let (name, lines) = (&file.name, file.lines.len());
         assert_eq!(
-            compared + programs,
-            lines,
+            all, lines,
             "not every line of {name} is compared: does it name a call?"
         );
-        println!("{name}: {compared} compared");
+        println!("{name}: {all} compared");
     }
 }
 
 #[test]
 fn lines_that_are_no_case() {
-    let call = |line: &str| Case::of(line).as_ref().and_then(call_of);
+    let known = |line: &str| {
+        Case::of(line).is_some_and(|case| call_of(&case).is_some() || day_of(&case).is_some())
+    };
     for line in [
         "check 6d = 0 0",
         "check/9 - = 1 0",
@@ -84,8 +111,10 @@ fn lines_that_are_no_case() {
         "lean/9/8 7 6d = 1 0",
         "bound/9/8 6d = 1 0",
         "fill/9/8 6d = 1 0",
+        "count 1 2 3 4 5 6 6d 6d - 6d = 0 0",
+        "count/9/8 1 2 3 4 5 6 6d 6d - 6d = 1 0",
     ] {
-        assert!(call(line).is_some(), "{line}");
+        assert!(known(line), "{line}");
     }
     for line in [
         "check 6d",
@@ -99,12 +128,16 @@ fn lines_that_are_no_case() {
         "leen 7 6d = 0",
         "fill 7 6d = 0",
         "chek 6d = 0 0",
+        "count 1 2 3 4 5 6d 6d - 6d = 0 0",
+        "count 1 2 3 4 5 6 6d 6d - x = 0 0",
+        "count 6d = 0 0",
+        "run 1 2 3 4 5 6 6d 6d - 6d = 0 0",
+        "small 6d = 0a",
+        "program = 0a",
     ] {
-        assert!(call(line).is_none(), "{line}");
-        assert!(
-            !Case::of(line).is_some_and(|case| case.is_program()),
-            "{line}"
-        );
+        assert!(!known(line), "{line}");
+        let program = Case::of(line).is_some_and(|case| case.is_program());
+        assert!(!program, "{line}");
     }
     let test = "include_str!(\"cases/a.tsv\"), include_str!(\"cases/b.tsv\")";
     assert_eq!(Vec::from_iter(cases::taken_in(test)), ["a.tsv", "b.tsv"]);
@@ -200,6 +233,25 @@ fn a_million_texts_to_be_filled_in() {
     let [checks, .., fills] = a_million(Texts::Starred);
     gave("check", &checks, &[0..=0, 2..=14]);
     gave("fill", &fills, &[0..=0, 2..=9, 17..=18]);
+}
+
+/// W12: counts of up to four scripts, a quarter of a million of them: a million
+/// scripts; a fortieth of them without optimisation.
+#[test]
+fn a_million_scripts_in_counts() {
+    let days = if cfg!(debug_assertions) {
+        6_250
+    } else {
+        250_000
+    };
+    let [calls, scripts] = match compare_days(0..days) {
+        Ok(counts) => counts,
+        Err(difference) => panic!("{difference}"),
+    };
+    println!("count {calls:?}\nscripts {scripts:?}");
+    gave("count", &calls, &[0..=0, 19..=19]);
+    let numbers = [0..=0, 2..=14, 21..=23, 27..=27];
+    gave("a script of a count", &scripts, &numbers);
 }
 
 /// A null text is allowed with length 0: it is the empty text.

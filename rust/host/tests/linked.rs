@@ -95,7 +95,7 @@ fn declared() -> BTreeSet<String> {
 #[test]
 fn shared_library_exports_the_header() {
     let shared = shared_library(&folder("exports"));
-    assert_eq!(declared().len(), 6);
+    assert_eq!(declared().len(), 7);
     assert_eq!(names(&shared, "--defined-only"), declared());
     let memory = ["memset", "memcpy", "memmove", "memcmp", "bcmp"];
     let taken = names(&shared, "--undefined-only");

@@ -109,14 +109,13 @@ fn every_case() {
     let program = program();
     let mut count = 0;
     for file in cases::files() {
-        for case in file.cases().filter(|case| case.is_program()) {
+        for case in file.cases() {
+            let Some(text) = case.of_program() else {
+                continue;
+            };
             count += 1;
-            let shown = case.text.escape_ascii();
-            assert_eq!(
-                printed(program, &case.text),
-                model::printed(&case.text),
-                "{shown}"
-            );
+            let shown = text.escape_ascii();
+            assert_eq!(printed(program, text), model::printed(text), "{shown}");
         }
     }
     println!("{count} cases");

@@ -1,10 +1,12 @@
 //! The calls for the host, over byte slices: "Each returns number × 65,536 +
 //! line." What each does with the areas is told byte by byte.
 
-use crate::limits::{BOUND_BYTES, PLACE_BYTES, RESULT_BYTES, WORK_BYTES};
+use crate::limits::{
+    BOUND_BYTES, COUNT_BYTES, PLACE_BYTES, RESULT_BYTES, SCRIPTS, SCRIPT_BYTES, WORK_BYTES,
+};
 use crate::machine::Run;
 use crate::number;
-use crate::{fill, trial, Bounds, Judged};
+use crate::{count, fill, trial, Bounds, Judged};
 
 fn returned(number: u32, line: u32) -> u32 {
     number * 65_536 + line
@@ -36,9 +38,14 @@ fn run_over(work: &mut [u8], results: &mut [u8], run: impl FnOnce() -> Run) -> u
     }
     let run = run();
     work.fill(0);
+    write_results(results, &run);
+    returned(run.number, run.line)
+}
+
+/// The steps taken and the twelve values.
+fn write_results(results: &mut [u8], run: &Run) {
     let values = run.values.map(i32::to_le_bytes);
     write(results, [run.steps.to_le_bytes()].into_iter().chain(values));
-    returned(run.number, run.line)
 }
 
 /// W6: "The call fills 8 bytes, 4 each: main's bound and the most frames on a
@@ -109,4 +116,28 @@ pub fn fill_call(text: &[u8], work: &mut [u8], places: &mut [u8]) -> u32 {
     work.fill(0);
     places.copy_from_slice(&filled.places);
     returned(filled.number, filled.line)
+}
+
+/// W12: "The call takes the count of scripts, the rounds, four texts, four shares and
+/// 224 bytes for results"; for each script "56 bytes: what run returns, then
+/// results".
+pub fn count_call(
+    scripts: u32,
+    rounds: u32,
+    texts: [&[u8]; SCRIPTS],
+    work: &mut [u8],
+    shares: [u32; SCRIPTS],
+    results: &mut [u8],
+) -> u32 {
+    if work.len() != WORK_BYTES || results.len() != COUNT_BYTES {
+        return returned(number::AREA, 0);
+    }
+    let counted = count(scripts, rounds, texts, shares);
+    work.fill(0);
+    for (bytes, run) in results.chunks_mut(SCRIPT_BYTES).zip(&counted.scripts) {
+        let (first, rest) = bytes.split_at_mut(SCRIPT_BYTES - RESULT_BYTES);
+        write(first, [returned(run.number, run.line).to_le_bytes()]);
+        write_results(rest, run);
+    }
+    returned(counted.number, counted.line)
 }

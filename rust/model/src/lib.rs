@@ -9,6 +9,7 @@ pub mod bounds;
 pub mod call;
 mod chains;
 pub mod checker;
+pub mod count;
 pub mod faults;
 pub mod fill;
 pub mod form;
@@ -31,7 +32,8 @@ pub mod state;
 pub mod text;
 pub mod watch;
 
-pub use call::{bound_call, check_call, fill_call, lean_call, run_call, trial_call};
+pub use call::{bound_call, check_call, count_call, fill_call, lean_call, run_call, trial_call};
+pub use count::{count, Counted};
 pub use fill::{fill, Filled};
 pub use machine::Run;
 pub use number::Refusal;
@@ -175,11 +177,6 @@ fn run_or_refused(
 ) -> Run {
     match program {
         Ok(program) => machine(program, steps),
-        Err(refusal) => Run {
-            number: refusal.number(),
-            line: refusal.line,
-            steps: 0,
-            values: [0; limits::LOCALS],
-        },
+        Err(refusal) => Run::refused(refusal),
     }
 }

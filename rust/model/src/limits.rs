@@ -37,6 +37,11 @@ pub const BOUND: u32 = 1_000_000;
 /// W11: "at most 4 `acc` atoms"
 pub const FILLED_ATOMS: usize = 4;
 
+/// W12: "up to four scripts"
+pub const SCRIPTS: usize = 4;
+/// W12: "a share of k objects and 4 × k fields"
+pub const SHARE_FIELDS: usize = 4;
+
 /// "a work area of 65,536 bytes"
 pub const WORK_BYTES: usize = 65_536;
 /// "a results area of 52 bytes"
@@ -45,5 +50,9 @@ pub const RESULT_BYTES: usize = 52;
 pub const BOUND_BYTES: usize = 8;
 /// W11: "The answer is 4 bytes"
 pub const PLACE_BYTES: usize = 4;
+/// W12: "56 bytes: what run returns, then results", for each script.
+pub const SCRIPT_BYTES: usize = 56;
+/// W12: "224 bytes for results"
+pub const COUNT_BYTES: usize = SCRIPTS * SCRIPT_BYTES;
 /// "The program ... allows 1,000 steps"
 pub const PROGRAM_STEPS: u32 = 1_000;

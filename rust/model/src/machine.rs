@@ -6,7 +6,7 @@ use crate::names::{
     Action, Atom, Block, Call, Compute, Loop, Path, Program, Statement, Var, FIRST_LOCAL, PARAM,
     RESULT, THIS, VARS,
 };
-use crate::number::{self, Stop};
+use crate::number::{self, Refusal, Stop};
 use crate::text::Share;
 use crate::watch::{Halt, Tested};
 
@@ -37,6 +37,29 @@ pub struct Object {
     pub class: usize,
 }
 
+/// How much of the heap the objects of a run may have.
+#[derive(Clone, Copy, Debug, PartialEq, Eq)]
+pub struct Room {
+    pub objects: usize,
+    pub fields: usize,
+}
+
+impl Room {
+    /// "The machine has 256 objects, 1,024 fields".
+    pub const WHOLE: Room = Room {
+        objects: limits::OBJECTS,
+        fields: limits::HEAP_FIELDS,
+    };
+
+    /// W12: "a share of k objects and 4 × k fields".
+    pub const fn share(k: usize) -> Room {
+        Room {
+            objects: k,
+            fields: limits::SHARE_FIELDS * k,
+        }
+    }
+}
+
 /// What a step that was done leads to.
 #[derive(Clone, Copy, Debug, PartialEq, Eq)]
 pub enum Step {
@@ -52,8 +75,11 @@ pub struct Machine<'p, 'a> {
     pub program: &'p Program<'a>,
     /// Object n is entry n - 1: "Objects are numbered as made".
     pub objects: Vec<Object>,
-    /// The values of all fields of all objects.
+    /// The values of all fields of all objects; in a count those of other scripts
+    /// too (W12).
     pub heap: Vec<i32>,
+    /// How much its own objects may have of the heap.
+    pub room: Room,
     /// Main's frame first, the running one last.
     pub frames: Vec<Frame>,
     /// The steps done.
@@ -80,6 +106,11 @@ pub fn returned_values(values: &Values, x: Var) -> Values {
 impl<'p, 'a> Machine<'p, 'a> {
     /// "the empty heap and main's frame"
     pub fn new(program: &'p Program<'a>) -> Machine<'p, 'a> {
+        Machine::within(program, Room::WHOLE)
+    }
+
+    /// The same, with so much of the heap.
+    pub fn within(program: &'p Program<'a>, room: Room) -> Machine<'p, 'a> {
         let block = program.blocks.len() - 1;
         let main = Frame {
             block,
@@ -91,6 +122,7 @@ impl<'p, 'a> Machine<'p, 'a> {
             program,
             objects: Vec::new(),
             heap: Vec::new(),
+            room,
             frames: vec![main],
             steps: 0,
             halt: None,
@@ -232,13 +264,15 @@ impl<'p, 'a> Machine<'p, 'a> {
         }
     }
 
-    /// "22 only where `new` would pass 256 objects or 1,024 fields."
+    /// "22 only where `new` would pass 256 objects or 1,024 fields", or in a count the
+    /// script's share of them.
     fn create(&mut self, x: Var, class: usize) -> Outcome<'a, ()> {
         let fields = self.program.classes[class].fields.len();
-        let first = self.heap.len();
-        if self.objects.len() == limits::OBJECTS || first + fields > limits::HEAP_FIELDS {
+        let used: usize = self.objects.iter().map(|object| object.fields).sum();
+        if self.objects.len() == self.room.objects || used + fields > self.room.fields {
             return Err(Halt::of(Stop::HeapFull));
         }
+        let first = self.heap.len();
         self.objects.push(Object {
             first,
             fields,
@@ -327,9 +361,33 @@ pub struct Run {
     pub values: [i32; limits::LOCALS],
 }
 
+impl Run {
+    /// Zeros.
+    pub const NONE: Run = Run {
+        number: 0,
+        line: 0,
+        steps: 0,
+        values: [0; limits::LOCALS],
+    };
+
+    /// A refused text has steps and values of zeros.
+    pub fn refused(refusal: Refusal) -> Run {
+        Run {
+            number: refusal.number(),
+            line: refusal.line,
+            ..Run::NONE
+        }
+    }
+}
+
 /// "A run tests 21 before each step."
 pub fn run(program: &Program, allowed: u32) -> Run {
-    let mut machine = Machine::new(program);
+    run_within(program, allowed, Room::WHOLE)
+}
+
+/// The same, with so much of the heap.
+pub fn run_within(program: &Program, allowed: u32, room: Room) -> Run {
+    let mut machine = Machine::within(program, room);
     loop {
         let line = machine.statement().line;
         let number = if machine.steps == allowed {

@@ -6,7 +6,8 @@ pub const DONE: u32 = 0;
 /// A lent area of wrong length.
 pub const AREA: u32 = 1;
 
-/// Why a text is refused, has no bound or is not filled in; the value is the number.
+/// Why a text is refused, has no bound or is not filled in, or why four are not run;
+/// the value is the number.
 #[derive(Clone, Copy, Debug, PartialEq, Eq, PartialOrd, Ord, Hash)]
 pub enum Reason {
     /// Text too long.
@@ -44,6 +45,8 @@ pub enum Reason {
     Unfilled = 17,
     /// No star, or a second one (W11).
     Stars = 18,
+    /// No scripts, more than four, or shares that are 0 or sum above 256 (W12).
+    Shares = 19,
 }
 
 impl Reason {
@@ -69,6 +72,7 @@ pub const UNBOUNDED: u32 = Reason::Unbounded.number();
 pub const BOUND_PASSED: u32 = Reason::BoundPassed.number();
 pub const UNFILLED: u32 = Reason::Unfilled.number();
 pub const STARS: u32 = Reason::Stars.number();
+pub const SHARES: u32 = Reason::Shares.number();
 
 /// Allowed steps taken, main's `end` not done: no step is stopped by it.
 pub const OUT_OF_STEPS: u32 = 21;

@@ -3,8 +3,12 @@
 //! 02, of which a file has the answers of its own level. The run of a file from
 //! before W7 is trial now.
 
-use model::limits::{BOUND_BYTES, PLACE_BYTES, RESULT_BYTES, WORK_BYTES};
-use model::{bound_call, check_call, fill_call, lean_call, printed, run_call, trial_call};
+use model::limits::{
+    BOUND_BYTES, COUNT_BYTES, PLACE_BYTES, RESULT_BYTES, SCRIPT_BYTES, WORK_BYTES,
+};
+use model::{
+    bound_call, check_call, count_call, fill_call, lean_call, printed, run_call, trial_call,
+};
 use std::collections::HashMap;
 
 /// The cases of document 01.
@@ -40,6 +44,7 @@ const SINCE_W7: &[Level] = &[
     ("W9", include_str!("cases/w9.tsv"), 227, &[]),
     ("W10", include_str!("cases/w10.tsv"), 186, &[]),
     ("W11", include_str!("cases/w11.tsv"), 147, &[]),
+    ("W12", include_str!("cases/w12.tsv"), 136, &[]),
 ];
 
 /// Which call a file's `run` is.
@@ -56,8 +61,10 @@ struct Case<'a> {
     work: usize,
     /// The length of the second area; check has none.
     second: usize,
-    steps: u32,
-    text: Vec<u8>,
+    /// The steps; of a count the scripts, the rounds and the four shares.
+    numbers: Vec<u32>,
+    /// The text, or the four of a count.
+    texts: Vec<Vec<u8>>,
 }
 
 fn bytes(hex: &str) -> Vec<u8> {
@@ -82,29 +89,44 @@ fn parse(left: &str, runs: Runs) -> Case<'_> {
         "run" | "trial" | "lean" => RESULT_BYTES,
         "bound" => BOUND_BYTES,
         "fill" => PLACE_BYTES,
+        "count" => COUNT_BYTES,
         _ => 0,
     };
     let (work, second) = (length(WORK_BYTES), length(usual));
-    let (steps, hex) = match (name, &fields[1..]) {
-        ("check" | "bound" | "fill" | "program", &[hex]) => (0, hex),
-        ("run" | "trial" | "lean", &[steps, hex]) => (steps.parse().expect("steps"), hex),
+    let (numbers, texts) = match (name, &fields[1..]) {
+        ("check" | "bound" | "fill" | "program", texts @ [_]) => (&[][..], texts),
+        ("run" | "trial" | "lean", both @ [_, _]) => both.split_at(1),
+        ("count", all @ [_, _, _, _, _, _, _, _, _, _]) => all.split_at(6),
         _ => panic!("no call: {left}"),
     };
+    let number = |word: &&str| word.parse().expect("a number");
     Case {
         call: name,
         work,
         second,
-        steps,
-        text: bytes(hex),
+        numbers: numbers.iter().map(number).collect(),
+        texts: texts.iter().map(|hex| bytes(hex)).collect(),
     }
 }
 
-/// What the second area holds: the steps, unsigned, and twelve signed values; the
-/// bound and the frames, which are small; or the places, a byte each.
+/// What the second area holds: words; the places, a byte each; or for each script of
+/// a count what run returns, and words.
 fn decoded(call: &str, area: &[u8]) -> Vec<i64> {
-    if call == "fill" {
-        return area.iter().copied().map(i64::from).collect();
+    let script = |bytes: &[u8]| {
+        let (first, rest) = bytes.split_at(SCRIPT_BYTES - RESULT_BYTES);
+        let returned = words(first)[0];
+        [&[returned / 65_536, returned % 65_536], &words(rest)[..]].concat()
+    };
+    match call {
+        "fill" => area.iter().copied().map(i64::from).collect(),
+        "count" => area.chunks(SCRIPT_BYTES).flat_map(script).collect(),
+        _ => words(area),
     }
+}
+
+/// The steps, unsigned, and twelve signed values; or the bound and the frames, which
+/// are small.
+fn words(area: &[u8]) -> Vec<i64> {
     area.chunks(4)
         .enumerate()
         .map(|(at, four)| {
@@ -117,23 +139,36 @@ fn decoded(call: &str, area: &[u8]) -> Vec<i64> {
         .collect()
 }
 
+/// What the call returns.
+fn returned(case: &Case, work: &mut [u8], second: &mut [u8]) -> u32 {
+    let text = case.texts[0].as_slice();
+    match case.call {
+        "check" => check_call(text, work),
+        "bound" => bound_call(text, work, second),
+        "fill" => fill_call(text, work, second),
+        "run" => run_call(text, work, case.numbers[0], second),
+        "trial" => trial_call(text, work, case.numbers[0], second),
+        "lean" => lean_call(text, work, case.numbers[0], second),
+        "count" => {
+            let texts = std::array::from_fn(|at| case.texts[at].as_slice());
+            let shares = std::array::from_fn(|at| case.numbers[2 + at]);
+            let [scripts, rounds] = [case.numbers[0], case.numbers[1]];
+            count_call(scripts, rounds, texts, work, shares, second)
+        }
+        other => panic!("no call: {other}"),
+    }
+}
+
 /// Makes the call over areas full of garbage and gives its answer as the file
 /// has it; the areas must be as document 01 says.
 fn answer(case: &Case) -> String {
+    if case.call == "program" {
+        let printed = printed(&case.texts[0]).into_iter();
+        return printed.map(|byte| format!("{byte:02x}")).collect();
+    }
     let mut work = vec![0xa5; case.work];
     let mut second = vec![0x5a; case.second];
-    let returned = match case.call {
-        "program" => {
-            let printed = printed(&case.text).into_iter();
-            return printed.map(|byte| format!("{byte:02x}")).collect();
-        }
-        "check" => check_call(&case.text, &mut work),
-        "bound" => bound_call(&case.text, &mut work, &mut second),
-        "fill" => fill_call(&case.text, &mut work, &mut second),
-        "trial" => trial_call(&case.text, &mut work, case.steps, &mut second),
-        "lean" => lean_call(&case.text, &mut work, case.steps, &mut second),
-        _ => run_call(&case.text, &mut work, case.steps, &mut second),
-    };
+    let returned = returned(case, &mut work, &mut second);
     let mut answer = vec![i64::from(returned / 65_536), i64::from(returned % 65_536)];
     let refused = answer[0] == 1;
     let rest = if refused { 0xa5 } else { 0 };
@@ -162,9 +197,10 @@ fn cases(file: &str) -> impl Iterator<Item = (usize, &str, &str)> {
 fn wrong(call: &str, runs: Runs, expected: &str) -> Option<String> {
     let case = parse(call, runs);
     let answer = answer(&case);
-    let (name, steps) = (case.call, case.steps);
-    let text = String::from_utf8_lossy(&case.text).into_owned();
-    (answer != expected).then(|| format!("{name} {steps}: {answer}, expected {expected}\n{text}"))
+    let (name, numbers) = (case.call, case.numbers);
+    let text = String::from_utf8_lossy(&case.texts.concat()).into_owned();
+    (answer != expected)
+        .then(|| format!("{name} {numbers:?}: {answer}, expected {expected}\n{text}"))
 }
 
 /// The cases of document 01 with the answers of a level.

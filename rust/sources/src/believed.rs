@@ -6,12 +6,15 @@ use std::collections::BTreeSet;
 use std::fs;
 
 /// The statements that docs/ASSURANCE.md makes, and what the contracts of the calls and of the program are equations with.
-pub const CLAIMS: [&str; 8] = [
+pub const CLAIMS: [&str; 11] = [
     "crates/bound_runs/specs/Claims.antt",
+    "crates/joint/specs/Claims.antt",
+    "crates/joint/specs/Counts.antt",
     "crates/rules/specs/Areas.antt",
     "crates/rules/specs/Demand.antt",
     "crates/rules/specs/Printed.antt",
     "crates/rules/specs/Refusals.antt",
+    "crates/station/specs/Counts.antt",
     "crates/station/specs/Demand.antt",
     "crates/station/specs/Promises.antt",
     "crates/station/specs/Refusals.antt",

@@ -15,14 +15,14 @@ same-length c = search needs
 
 returns : tie.Need-returns
 returns c =
-    let x = found-zeros _ _ (c .before .before .before .before .if1 .taken) _ (c .before .before .before .before .before .before .before .before .pre .2) in
-    (x .0, c .before .before .clear .ensures ∙ x .1, c .before .before .before .before .before .before .before .before .pre .1)
+    let x = found-zeros _ _ (c .before .before .before .before .if1 .taken) _ (c .before .before .before .before .before .before .before .before .pre .3) in
+    (x .0, c .before .before .clear .ensures ∙ x .1, c .before .before .before .before .before .before .before .before .pre .2)
 
 run-tables-requires : tie.Need-run-tables-requires
 run-tables-requires c κs =
     let start = c .before .before .before .before .before .before in
     let at-if1 = c .before .before .if1 in
-    (start .pre .0 (at-if1 .left), start .pre .2)
+    ((start .pre .0 (at-if1 .left), start .pre .1), start .pre .3)
 
 same-length-2 : tie.Need-same-length-2
 same-length-2 c = search needs

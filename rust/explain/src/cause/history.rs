@@ -251,6 +251,7 @@ pub fn open_loops(script: &Script, trail: &Trail) -> Vec<String> {
 mod tests {
     use super::*;
     use crate::cause::stop_cause;
+    use model::machine::Room;
 
     /// The number after a word of a note.
     fn after(note: &str, word: &str) -> Option<u32> {
@@ -282,7 +283,7 @@ mod tests {
                 continue;
             }
             let script = Script::of(&text).expect("a text that runs");
-            let cause = stop_cause(&text, run.steps, run.number).expect("a cause");
+            let cause = stop_cause(&text, Room::WHOLE, run.steps, run.number).expect("a cause");
             for note in cause.notes.iter().filter(|note| note.contains("(step ")) {
                 holds(&script, run.steps, note);
                 told += 1;
@@ -295,7 +296,7 @@ mod tests {
     #[test]
     fn the_last_assignment() {
         let text = b"main\nvar\tint\ta\nvar\tint\tb\nlet\ta\t1\nlet\tb\t2\nlet\ta\t3\nassert\teq\ta\tb\nend\n";
-        let cause = stop_cause(text, 3, 26).expect("a cause");
+        let cause = stop_cause(text, Room::WHOLE, 3, 26).expect("a cause");
         assert_eq!(
             cause.notes,
             [
@@ -314,14 +315,14 @@ mod tests {
         let text = text.replace(' ', "\t").replace('|', "\n");
         let run = model::trial(text.as_bytes(), 100);
         assert_eq!((run.number, run.line), (24, 11));
-        let cause = stop_cause(text.as_bytes(), run.steps, 24).expect("a cause");
+        let cause = stop_cause(text.as_bytes(), Room::WHOLE, run.steps, 24).expect("a cause");
         assert_eq!(cause.notes, ["main has the permission to `this.n`"]);
     }
 
     #[test]
     fn permissions_that_went() {
         let text = b"class\tC\nfield\tint\tn\nmain\nvar\tC\tc\nvar\tC\td\nvar\tint\tk\nnew\tc\tC\nlet\td\tc\nrelease\tacc\tc\tn\nset\td\tn\tk\nend\n";
-        let cause = stop_cause(text, 3, 24).expect("a cause");
+        let cause = stop_cause(text, Room::WHOLE, 3, 24).expect("a cause");
         assert_eq!(
             cause.notes,
             [

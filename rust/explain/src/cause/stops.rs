@@ -6,7 +6,7 @@ use super::stopped_halves::{half_written, lack, with_other};
 use super::Cause;
 use crate::rounds::Open;
 use crate::script::{field_range, line, quoted, shown, Names, Script};
-use model::machine::{Machine, Step, Values};
+use model::machine::{Machine, Room, Step, Values};
 use model::names::{Action, Atom, Expr, Path, Type};
 use model::number::{self, Stop};
 use model::text::{Operator, Share};
@@ -105,9 +105,9 @@ fn path_kind<'a>(machine: &Machine<'_, 'a>, values: &Values, path: Path) -> Opti
     class.fields.get(path.slot).map(|field| field.kind)
 }
 
-/// Why the step after so many steps stopped with the number; none if the model
-/// does not stop so.
-pub fn stop_cause(text: &[u8], steps: u32, number: u32) -> Option<Cause> {
+/// Why the step after so many steps stopped with the number, in a run with so much of
+/// the heap; none if the model does not stop so.
+pub fn stop_cause(text: &[u8], room: Room, steps: u32, number: u32) -> Option<Cause> {
     let script = Script::of(text)?;
     if number == number::OUT_OF_STEPS {
         return in_a_loop(&script, steps);
@@ -119,6 +119,8 @@ pub fn stop_cause(text: &[u8], steps: u32, number: u32) -> Option<Cause> {
     if machine.steps != steps {
         return None;
     }
+    // What was made before fits into the room, or the run had stopped there.
+    machine.room = room;
     let stop = machine.step().err();
     let stop = stop.filter(|stop| stop.number() == number)?;
     let halt = machine.halt?;
@@ -404,11 +406,18 @@ fn walk_said(machine: &Machine, names: Names, halt: Halt) -> Option<String> {
 /// What is full: the heap, or the frames and what they are of.
 fn full(script: &Script, machine: &Machine, stop: Stop) -> Option<String> {
     match stop {
-        Stop::HeapFull => Some(format!(
-            "{} objects with {} fields are made already",
-            machine.objects.len(),
-            machine.heap.len()
-        )),
+        Stop::HeapFull => {
+            let Room { objects, fields } = machine.room;
+            let made = format!(
+                "{} objects with {} fields are made already",
+                machine.objects.len(),
+                machine.heap.len()
+            );
+            Some(match machine.room == Room::WHOLE {
+                true => made,
+                false => format!("{made}, and the share has {objects} with {fields}"),
+            })
+        }
         Stop::FramesFull => {
             let block = machine.frame().block;
             let same = machine.frames.iter().filter(|frame| frame.block == block);

@@ -8,6 +8,7 @@ static uint8_t work[STATION_WORK_BYTES + 1];
 static uint8_t results[STATION_RESULTS_BYTES + 1];
 static uint8_t bounds[STATION_BOUNDS_BYTES + 1];
 static uint8_t places[STATION_PLACES_BYTES + 1];
+static uint8_t counts[STATION_COUNT_BYTES + 1];
 static int wrong;
 
 static void expect(int holds, const char *what)
@@ -32,6 +33,7 @@ static void garbage(void)
     memset(results, 0x5a, sizeof results);
     memset(bounds, 0x5a, sizeof bounds);
     memset(places, 0x5a, sizeof places);
+    memset(counts, 0x5a, sizeof counts);
 }
 
 static uint32_t word(size_t at)
@@ -139,6 +141,46 @@ static void lean_calls(const uint8_t *text, size_t len, uint32_t steps)
     }
 }
 
+/* A count of the text with areas of these lengths, and nothing for what is not looked at. */
+static uint32_t count_of(uint32_t scripts, const uint8_t *text, size_t len, uint32_t share, size_t work_len, size_t counts_len)
+{
+    return station_count(scripts, 1000, text, len, text, len, NULL, 0, NULL, 0, work, work_len, share, 256 - share, 0, 0, counts, counts_len);
+}
+
+/* Two scripts, each as station_run leaves it; shares that do not fit; number 1. */
+static void count_calls(const uint8_t *text, size_t len)
+{
+    const size_t room = STATION_WORK_BYTES, each = STATION_SCRIPT_BYTES;
+    uint32_t ran, returned;
+
+    garbage();
+    ran = station_run(text, len, work, room, 1000, results, STATION_RESULTS_BYTES);
+    returned = count_of(2, text, len, 1, room, STATION_COUNT_BYTES);
+    expect(returned == STATION_DONE, "a count of two scripts");
+    for (size_t at = 0; at < 2; at++) {
+        const uint8_t *one = counts + at * each;
+        uint32_t of_one = one[0] | (uint32_t)one[1] << 8 | (uint32_t)one[2] << 16 | (uint32_t)one[3] << 24;
+        expect(of_one == ran, "each script ends as alone");
+        expect(!memcmp(one + 4, results, STATION_RESULTS_BYTES), "each script has the results that it has alone");
+    }
+    expect(all(counts + 2 * each, STATION_COUNT_BYTES - 2 * each, 0), "zeros past the scripts");
+    expect(all(work, room, 0), "count clears the work area");
+    expect(work[room] == 0xa5 && counts[STATION_COUNT_BYTES] == 0x5a, "count stays within the areas");
+
+    garbage();
+    expect(count_of(0, text, len, 1, room, STATION_COUNT_BYTES) == STATION_SHARES * 65536, "no script");
+    expect(all(counts, STATION_COUNT_BYTES, 0) && all(work, room, 0), "zeros after a refusal of count");
+    expect(count_of(5, text, len, 1, room, STATION_COUNT_BYTES) == STATION_SHARES * 65536, "five scripts");
+    expect(count_of(2, text, len, 0, room, STATION_COUNT_BYTES) == STATION_SHARES * 65536, "a share of 0");
+    expect(count_of(1, text, len, 257, room, STATION_COUNT_BYTES) == STATION_SHARES * 65536, "a share above the heap");
+    expect(count_of(1, NULL, 0, 256, room, STATION_COUNT_BYTES) == STATION_DONE, "count of a null text");
+
+    garbage();
+    expect(count_of(0, text, len, 1, room + 1, STATION_COUNT_BYTES) == STATION_AREA_LENGTH * 65536, "a work area too long for count");
+    expect(count_of(2, text, len, 1, room, STATION_COUNT_BYTES - 1) == STATION_AREA_LENGTH * 65536, "a results area too short for count");
+    expect(all(work, sizeof work, 0xa5) && all(counts, sizeof counts, 0x5a), "number 1 leaves both areas of count");
+}
+
 int main(void)
 {
     const char *script = "main\nvar\tint\ta\nvar\tint\tb\nlet\ta\t-7\nend\n";
@@ -193,6 +235,7 @@ int main(void)
 
     bound_calls(text, len);
     fill_calls(text, len);
+    count_calls(text, len);
     lean_calls(text, len, 0);
     lean_calls(text, len, 1);
     lean_calls(text, len, 1000);

@@ -3,7 +3,8 @@
  * pages may only be read. Each thread has areas of its own; the texts are shared.
  *
  * guard STEPS FILE..: prints what check, run, trial, bound, lean and fill returned,
- * for each file, and a sum of the results, bounds and places areas. Exit status 1 if two
+ * and count of the text twice, for each file, and a sum of the results, bounds and
+ * places areas. Exit status 1 if two
  * threads differ, if lean and run do, or if the work area is not all zero after a
  * call. */
 #define _GNU_SOURCE
@@ -28,7 +29,7 @@ struct text {
 };
 
 struct answer {
-    uint32_t checked, ran, tried, bounded, leaned, filled, sum;
+    uint32_t checked, ran, tried, bounded, leaned, filled, counted, sum;
 };
 
 static struct text *texts;
@@ -74,10 +75,17 @@ static uint32_t added(uint32_t sum, const uint8_t *area, size_t len)
     return sum;
 }
 
+/* A count of a text that stands in two places. */
+static uint32_t counted(const uint8_t *one, const uint8_t *other, size_t len, uint8_t *work, uint8_t *results)
+{
+    return station_count(2, steps, one, len, other, len, NULL, 0, NULL, 0, work, STATION_WORK_BYTES, 3, 200, 0, 0, results,
+                         STATION_COUNT_BYTES);
+}
+
 static void *work_on(void *own)
 {
     struct answer *answer = own;
-    size_t room, results_room, bounds_room, places_room;
+    size_t room, results_room, bounds_room, places_room, counts_room;
     uint8_t *work = pages(STATION_WORK_BYTES, &room);
     uint8_t *low = pages(STATION_RESULTS_BYTES, &results_room);
     uint8_t *high = low + results_room - STATION_RESULTS_BYTES;
@@ -85,6 +93,8 @@ static void *work_on(void *own)
     uint8_t *last = first + bounds_room - STATION_BOUNDS_BYTES;
     uint8_t *front = pages(STATION_PLACES_BYTES, &places_room);
     uint8_t *back = front + places_room - STATION_PLACES_BYTES;
+    uint8_t *top = pages(STATION_COUNT_BYTES, &counts_room);
+    uint8_t *bottom = top + counts_room - STATION_COUNT_BYTES;
 
     for (int i = 0; i < count; i++) {
         memset(work, 0xa5, STATION_WORK_BYTES);
@@ -130,6 +140,13 @@ static void *work_on(void *own)
         again = station_fill(texts[i].before, texts[i].len, work, STATION_WORK_BYTES, front, STATION_PLACES_BYTES);
         if (!all_zero(work, STATION_WORK_BYTES) || again != answer[i].filled || memcmp(front, back, STATION_PLACES_BYTES))
             wrong = 1;
+        memset(work, 0x5a, STATION_WORK_BYTES);
+        memset(top, 0xa5, counts_room);
+        answer[i].counted = counted(texts[i].after, texts[i].before, texts[i].len, work, bottom);
+        answer[i].sum = added(answer[i].sum, bottom, STATION_COUNT_BYTES);
+        again = counted(texts[i].before, texts[i].after, texts[i].len, work, top);
+        if (!all_zero(work, STATION_WORK_BYTES) || again != answer[i].counted || memcmp(top, bottom, STATION_COUNT_BYTES))
+            wrong = 1;
     }
     return NULL;
 }
@@ -164,8 +181,8 @@ int main(int words, char **word)
             wrong = 1;
     }
     for (int i = 0; i < count; i++)
-        printf("%u %u %u %u %u %u %u\n", answers[0][i].checked, answers[0][i].ran, answers[0][i].tried, answers[0][i].bounded, answers[0][i].leaned,
-               answers[0][i].filled, answers[0][i].sum);
+        printf("%u %u %u %u %u %u %u %u\n", answers[0][i].checked, answers[0][i].ran, answers[0][i].tried, answers[0][i].bounded, answers[0][i].leaned,
+               answers[0][i].filled, answers[0][i].counted, answers[0][i].sum);
     for (int t = 0; t < THREADS; t++)
         free(answers[t]);
     free(texts);

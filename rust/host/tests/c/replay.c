@@ -3,7 +3,8 @@
  * what they held before.
  *
  * replay STEPS FILE..: prints what check, run, trial, bound, lean and fill returned,
- * for each file, and a sum of the results, bounds and places. */
+ * and count of the text twice, for each file, and a sum of the results, bounds and
+ * places. */
 #include "station.h"
 
 #include <stdio.h>
@@ -30,12 +31,14 @@ int main(int count, char **words)
         uint8_t *fourth = malloc(STATION_WORK_BYTES);
         uint8_t *fifth = malloc(STATION_WORK_BYTES);
         uint8_t *sixth = malloc(STATION_WORK_BYTES);
+        uint8_t *seventh = malloc(STATION_WORK_BYTES);
         uint8_t *results = malloc(STATION_RESULTS_BYTES);
         uint8_t *others = malloc(STATION_RESULTS_BYTES);
         uint8_t *leanly = malloc(STATION_RESULTS_BYTES);
         uint8_t *bounds = malloc(STATION_BOUNDS_BYTES);
         uint8_t *places = malloc(STATION_PLACES_BYTES);
-        if (!text || !work || !again || !third || !fourth || !fifth || !sixth || !results || !others || !leanly || !bounds || !places)
+        uint8_t *counts = malloc(STATION_COUNT_BYTES);
+        if (!text || !work || !again || !third || !fourth || !fifth || !sixth || !seventh || !results || !others || !leanly || !bounds || !places || !counts)
             return 2;
         memcpy(text, read, len);
         uint32_t checked = station_check(text, len, work, STATION_WORK_BYTES);
@@ -44,6 +47,8 @@ int main(int count, char **words)
         uint32_t bounded = station_bound(text, len, fourth, STATION_WORK_BYTES, bounds, STATION_BOUNDS_BYTES);
         uint32_t leaned = station_lean(text, len, fifth, STATION_WORK_BYTES, steps, leanly, STATION_RESULTS_BYTES);
         uint32_t filled = station_fill(text, len, sixth, STATION_WORK_BYTES, places, STATION_PLACES_BYTES);
+        uint32_t counted = station_count(2, steps, text, len, text, len, NULL, 0, NULL, 0, seventh, STATION_WORK_BYTES, 3, 200, 0, 0,
+                                         counts, STATION_COUNT_BYTES);
         uint32_t sum = 0;
         for (size_t at = 0; at < STATION_RESULTS_BYTES; at++)
             sum = sum * 31 + results[at];
@@ -55,7 +60,9 @@ int main(int count, char **words)
             sum = sum * 31 + leanly[at];
         for (size_t at = 0; at < STATION_PLACES_BYTES; at++)
             sum = sum * 31 + places[at];
-        printf("%u %u %u %u %u %u %u\n", checked, ran, tried, bounded, leaned, filled, sum);
+        for (size_t at = 0; at < STATION_COUNT_BYTES; at++)
+            sum = sum * 31 + counts[at];
+        printf("%u %u %u %u %u %u %u %u\n", checked, ran, tried, bounded, leaned, filled, counted, sum);
         free(text);
         free(work);
         free(again);
@@ -63,11 +70,13 @@ int main(int count, char **words)
         free(fourth);
         free(fifth);
         free(sixth);
+        free(seventh);
         free(results);
         free(others);
         free(leanly);
         free(bounds);
         free(places);
+        free(counts);
     }
     return 0;
 }

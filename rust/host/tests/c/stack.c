@@ -3,7 +3,7 @@
  * thread itself takes is measured by an empty call and taken off.
  *
  * stack STEPS FILE..: prints, for each file, the bytes of check, run, trial, bound,
- * lean and fill. */
+ * lean, fill and count. */
 #define _GNU_SOURCE
 #include "station.h"
 
@@ -19,6 +19,7 @@ static uint8_t work[STATION_WORK_BYTES];
 static uint8_t results[STATION_RESULTS_BYTES];
 static uint8_t bounds[STATION_BOUNDS_BYTES];
 static uint8_t places[STATION_PLACES_BYTES];
+static uint8_t counts[STATION_COUNT_BYTES];
 static uint8_t text[STATION_TEXT_BYTES + 1];
 static size_t len;
 static uint32_t steps;
@@ -66,6 +67,12 @@ static void *filled(void *unused)
     return unused;
 }
 
+static void *counted(void *unused)
+{
+    answer = station_count(4, steps, text, len, text, len, text, len, text, len, work, sizeof work, 64, 64, 64, 64, counts, sizeof counts);
+    return unused;
+}
+
 static long depth(void *(*call)(void *))
 {
     uint8_t *stack = mmap(NULL, STACK, PROT_READ | PROT_WRITE, MAP_PRIVATE | MAP_ANONYMOUS, -1, 0);
@@ -106,7 +113,8 @@ int main(int count, char **words)
         long of_bound = depth(bounded) - empty;
         long of_lean = depth(leaned) - empty;
         long of_fill = depth(filled) - empty;
-        printf("%ld %ld %ld %ld %ld %ld %s\n", of_check, of_run, of_trial, of_bound, of_lean, of_fill, words[i]);
+        long of_count = depth(counted) - empty;
+        printf("%ld %ld %ld %ld %ld %ld %ld %s\n", of_check, of_run, of_trial, of_bound, of_lean, of_fill, of_count, words[i]);
     }
     return 0;
 }

@@ -47,7 +47,7 @@ pub fn files(folder: &str, texts: impl IntoIterator<Item = Vec<u8>>) -> Vec<Path
     written.collect()
 }
 
-/// What `replay` and `guard` print of a text, by the model: what check, run, trial, bound, lean and fill return, and a sum of the results, bounds and places.
+/// What `replay` and `guard` print of a text, by the model: what check, run, trial, bound, lean and fill return, what count returns of the text twice, with shares of 3 and 200 objects, and a sum of the results, bounds and places.
 pub fn expected(text: &[u8], steps: u32) -> String {
     let mut work = vec![0; limits::WORK_BYTES];
     let mut results = [0; limits::RESULTS_BYTES];
@@ -63,7 +63,11 @@ pub fn expected(text: &[u8], steps: u32) -> String {
     let mut places = [0; limits::PLACES_BYTES];
     let filled = model::fill_call(text, &mut work, &mut places);
     let sum = results.iter().chain(&places).fold(sum, add);
-    format!("{checked} {ran} {tried} {bounded} {leaned} {filled} {sum}\n")
+    let mut counts = [0; limits::COUNT_BYTES];
+    let texts = [text, text, b"", b""];
+    let counted = model::count_call(2, steps, texts, &mut work, [3, 200, 0, 0], &mut counts);
+    let sum = counts.iter().fold(sum, add);
+    format!("{checked} {ran} {tried} {bounded} {leaned} {filled} {counted} {sum}\n")
 }
 
 /// Runs a program that prints a line for each text; each is the model's.

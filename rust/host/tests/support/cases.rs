@@ -1,6 +1,7 @@
 //! The files of cases that the model's tests hold it to, line by line.
 #![allow(dead_code)]
 
+use generator::days::CountDay;
 use std::collections::BTreeSet;
 use std::path::{Path, PathBuf};
 
@@ -9,8 +10,14 @@ use std::path::{Path, PathBuf};
 pub struct Case {
     pub call: String,
     pub lengths: Vec<usize>,
-    pub steps: Option<u32>,
-    pub text: Vec<u8>,
+    pub given: Given,
+}
+
+/// What a call is given beside its areas.
+pub enum Given {
+    Text(Vec<u8>),
+    Steps(u32, Vec<u8>),
+    Count(CountDay),
 }
 
 fn bytes(hex: &str) -> Option<Vec<u8>> {
@@ -21,29 +28,56 @@ fn bytes(hex: &str) -> Option<Vec<u8>> {
     (0..hex.len()).step_by(2).map(digits).collect()
 }
 
+/// The count of scripts, the rounds and the shares, and the texts.
+fn day(numbers: [&str; 6], texts: [&str; 4]) -> Option<CountDay> {
+    let all = |numbers: &[&str]| -> Option<Vec<u32>> {
+        numbers.iter().map(|number| number.parse().ok()).collect()
+    };
+    let numbers = all(&numbers)?;
+    let texts: Vec<Vec<u8>> = texts.into_iter().map(bytes).collect::<Option<_>>()?;
+    Some(CountDay {
+        scripts: numbers[0],
+        rounds: numbers[1],
+        shares: numbers[2..].try_into().ok()?,
+        texts: texts.try_into().ok()?,
+    })
+}
+
+impl Given {
+    fn of(fields: &[&str]) -> Option<Given> {
+        Some(match *fields {
+            [text] => Given::Text(bytes(text)?),
+            [steps, text] => Given::Steps(steps.parse().ok()?, bytes(text)?),
+            [n, rounds, a, b, c, d, one, two, three, four] => {
+                let texts = [one, two, three, four];
+                Given::Count(day([n, rounds, a, b, c, d], texts)?)
+            }
+            _ => return None,
+        })
+    }
+}
+
 impl Case {
     pub fn of(line: &str) -> Option<Case> {
         let (left, _) = line.split_once(" = ")?;
         let fields: Vec<&str> = left.split(' ').collect();
-        let (call, steps, text) = match fields[..] {
-            [call, text] => (call, None, text),
-            [call, steps, text] => (call, Some(steps.parse().ok()?), text),
-            _ => return None,
-        };
+        let (call, rest) = fields.split_first()?;
         let mut parts = call.split('/');
+        let name = parts.next()?.to_string();
+        let lengths = parts.map(|length| length.parse().ok());
         Some(Case {
-            call: parts.next()?.to_string(),
-            lengths: parts
-                .map(|length| length.parse().ok())
-                .collect::<Option<_>>()?,
-            steps,
-            text: bytes(text)?,
+            call: name,
+            lengths: lengths.collect::<Option<_>>()?,
+            given: Given::of(rest)?,
         })
     }
 
-    /// Is it of the program, and not of a call?
-    pub fn is_program(&self) -> bool {
-        self.call == "program"
+    /// The text, if it is of the program and not of a call.
+    pub fn of_program(&self) -> Option<&[u8]> {
+        match &self.given {
+            Given::Text(text) if self.call == "program" => Some(text),
+            _ => None,
+        }
     }
 }
 

@@ -17,21 +17,28 @@ pub fn number_or(usual: u64, word: Option<String>) -> u64 {
 const CANARY: usize = 64;
 
 /// A lent area between two canaries.
-struct Lent {
-    bytes: Vec<u8>,
+#[derive(Default)]
+pub struct Lent {
+    pub bytes: Vec<u8>,
     len: usize,
+}
+
+/// Garbage for the areas of all calls.
+pub fn garbage(seed: u64) -> Vec<u8> {
+    let mut rng = Rng::new(seed);
+    (0..3 * WORK_BYTES).map(|_| rng.bits() as u8).collect()
 }
 
 impl Lent {
     /// An area with garbage in it and around it.
-    fn set(&mut self, garbage: &[u8], len: usize) -> &mut Lent {
+    pub fn set(&mut self, garbage: &[u8], len: usize) -> &mut Lent {
         self.len = len;
         self.bytes.clear();
         self.bytes.extend_from_slice(&garbage[..len + 2 * CANARY]);
         self
     }
 
-    fn area(&mut self) -> &mut [u8] {
+    pub fn area(&mut self) -> &mut [u8] {
         &mut self.bytes[CANARY..CANARY + self.len]
     }
 }
@@ -65,6 +72,17 @@ pub enum Runs {
     Trial,
     /// The library's lean beside the model's run, and beside the model's lean.
     Lean,
+}
+
+impl Runs {
+    pub fn named(name: &str) -> Option<Runs> {
+        match name {
+            "run" => Some(Runs::Run),
+            "trial" => Some(Runs::Trial),
+            "lean" => Some(Runs::Lean),
+            _ => None,
+        }
+    }
 }
 
 /// A check, a bound, a fill, a run, a trial and a lean run with areas of the right length.
@@ -141,14 +159,9 @@ pub struct Comparer {
 
 impl Comparer {
     pub fn new(seed: u64) -> Comparer {
-        let mut rng = Rng::new(seed);
-        let lent = || Lent {
-            bytes: Vec::new(),
-            len: 0,
-        };
         Comparer {
-            garbage: (0..3 * WORK_BYTES).map(|_| rng.bits() as u8).collect(),
-            areas: std::array::from_fn(|_| lent()),
+            garbage: garbage(seed),
+            areas: std::array::from_fn(|_| Lent::default()),
             text: Vec::new(),
         }
     }
@@ -326,10 +339,7 @@ impl Comparer {
         loop {
             let lines = mutate::fields_of(&least.text);
             let call = least.call;
-            let shorter = runs_of_lines(&lines)
-                .chain(branches(&lines))
-                .chain(fields(&lines))
-                .map(|lines| mutate::text_from(&lines))
+            let shorter = shorter(&lines)
                 .filter(|text| text.len() < least.text.len())
                 .find_map(|text| self.call(&text, call).err());
             match shorter {
@@ -340,7 +350,14 @@ impl Comparer {
     }
 }
 
-type Lines = Vec<Vec<Vec<u8>>>;
+pub type Lines = Vec<Vec<Vec<u8>>>;
+
+/// Texts with some of the lines or fields taken out.
+pub fn shorter(lines: &Lines) -> impl Iterator<Item = Vec<u8>> + '_ {
+    let fewer = runs_of_lines(lines).chain(branches(lines));
+    let fewer = fewer.chain(fields(lines));
+    fewer.map(|lines| mutate::text_from(&lines))
+}
 
 /// The lines without a run of them, the longest runs first.
 fn runs_of_lines(lines: &Lines) -> impl Iterator<Item = Lines> + '_ {
@@ -413,13 +430,16 @@ pub const CALLS: [&str; 6] = ["check", "run", "trial", "bound", "lean", "fill"];
 /// What check, run, trial, bound, lean and fill return.
 pub type Answers = [u32; CALLS.len()];
 
-/// How often each number came from each of them.
-pub type Counts = [[u64; NUMBERS]; CALLS.len()];
+/// How often each number came from each of so many calls.
+pub type Numbers<const CALLS: usize> = [[u64; NUMBERS]; CALLS];
+
+/// How often each number came from those that are compared on a text.
+pub type Counts = Numbers<{ CALLS.len() }>;
 
 pub const NONE: Counts = [[0; NUMBERS]; CALLS.len()];
 
 /// Counts added up.
-pub fn add(counts: &mut Counts, more: &Counts) {
+pub fn add<const CALLS: usize>(counts: &mut Numbers<CALLS>, more: &Numbers<CALLS>) {
     for (count, more) in counts.iter_mut().flatten().zip(more.iter().flatten()) {
         *count += more;
     }
@@ -480,21 +500,25 @@ pub fn compare_seed(
     Ok(())
 }
 
-/// Seeds compared by two threads; the texts are the same however they share them.
-pub fn compare_seeds(texts: Texts, seeds: std::ops::Range<u64>) -> Result<Counts, Box<Difference>> {
+/// Seeds shared by two threads, each with what it works with, until there are no
+/// more of them or one leads to an error.
+pub fn by_two_threads<W: Send, E: Send>(
+    seeds: std::ops::Range<u64>,
+    new: impl Fn() -> W + Sync,
+    compare: impl Fn(&mut W, u64) -> Result<(), E> + Sync,
+) -> Result<[W; 2], E> {
     use std::sync::atomic::{AtomicU64, Ordering};
     let next = AtomicU64::new(seeds.start);
     let work = || {
-        let mut comparer = Comparer::new(seeds.start);
-        let mut counts = NONE;
+        let mut with = new();
         loop {
             let seed = next.fetch_add(1, Ordering::Relaxed);
             if seed >= seeds.end {
-                return Ok(counts);
+                return Ok(with);
             }
-            if let Err(found) = compare_seed(&mut comparer, texts, seed, &mut counts) {
+            if let Err(found) = compare(&mut with, seed) {
                 next.store(seeds.end, Ordering::Relaxed);
-                return Err(comparer.reduced(found));
+                return Err(found);
             }
         }
     };
@@ -502,7 +526,20 @@ pub fn compare_seeds(texts: Texts, seeds: std::ops::Range<u64>) -> Result<Counts
         let other = scope.spawn(work);
         (work(), other.join().expect("the other thread ends"))
     });
-    let mut counts = one?;
-    add(&mut counts, &two?);
+    Ok([one?, two?])
+}
+
+/// Seeds compared; the texts are the same however the threads share them.
+pub fn compare_seeds(texts: Texts, seeds: std::ops::Range<u64>) -> Result<Counts, Box<Difference>> {
+    let first = seeds.start;
+    let [(_, mut counts), (_, more)] = by_two_threads(
+        seeds,
+        || (Comparer::new(first), NONE),
+        |(comparer, counts), seed| {
+            let compared = compare_seed(comparer, texts, seed, counts);
+            compared.map_err(|found| comparer.reduced(found))
+        },
+    )?;
+    add(&mut counts, &more);
     Ok(counts)
 }

@@ -39,8 +39,9 @@ fn numbers() {
         BoundPassed,
         Unfilled,
         Stars,
+        Shares,
     ];
-    assert!(refused.map(|reason| reason.number()).into_iter().eq(2..=18));
+    assert!(refused.map(|reason| reason.number()).into_iter().eq(2..=19));
     let stopped = [
         HeapFull,
         FramesFull,
