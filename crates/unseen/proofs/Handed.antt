@@ -66,18 +66,19 @@ two-catalogues t items e room m m′ alone agree k n =
     let P : Program = program items in
     let alone′ : m′ .callers ≡ [] = no-callers (m′ .callers) (agree .calls ∙ ap (λ (Fs : List Frame). length Fs) alone) in
     let same = unseen room P m m′ agree k in
+    let l′ : Leaving = methodPart room P k m′ .leaving in
     part-of-run room P m′ k n
-    ∙ (rw (same .count)
-    (go k n (methodPart room P k m .count) (methodPart room P k m .leaving) (methodPart room P k m′ .leaving) (alone′ ∙ sym alone) (same .leaving)
+    ∙ (ap (λ (c : ℕ). goesOn room P k n c l′) (same .count)
+    ∙ (go (methodPart room P k m .count) (methodPart room P k m .leaving) l′ (alone′ ∙ sym alone) (same .leaving)
     ∙ sym (part-of-run room P m k n)))
   where
     go :
-        (k n c : ℕ) (l l′ : Leaving) → m′ .callers ≡ m .callers → LeftAlike (program items) m m′ l l′ →
+        (c : ℕ) (l l′ : Leaving) → m′ .callers ≡ m .callers → LeftAlike (program items) m m′ l l′ →
         goesOn room (program items) k n c l′ ≡ goesOn room (program items) k n c l
-    go k n c (left e) (left e′) w R = absurd (omega (arith, ap (λ (Fs : List Frame). length Fs) (sym alone ∙ R .resumed .callers)))
-    go k n c (left e) (halted s′ e′) w R = absurd R
-    go k n c (halted s e) (left e′) w R = absurd R
-    go k n c (halted s e) (halted s′ e′) w S = ends-same (program items) m m′ e e′ s s′ (n + c) w S
+    go c (left e) (left e′) w R = absurd (omega (arith, ap (λ (Fs : List Frame). length Fs) (sym alone ∙ R .resumed .callers)))
+    go c (left e) (halted s′ e′) w R = absurd R
+    go c (halted s e) (left e′) w R = absurd R
+    go c (halted s e) (halted s′ e′) w S = ends-same (program items) m m′ e e′ s s′ (n + c) w S
 
 -- A FUNCTION OF WHAT IS HANDED OVER
 
