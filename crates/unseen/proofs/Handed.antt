@@ -4,22 +4,20 @@ use mathlib.Core.List.{List, [], _∷_, _++_}
 use mathlib.Core.Logic.{_⊎_, inl, inr, ⊎-elim}
 use Prim.Native.Nat.{ℕ, zero, suc, _+_, _-_, _≤_, _<_}
 use native.Mathlib.Omega.{arith}
-use native.Mathlib.Nat.{le-refl}
 use lib.Dec.{ltb, ltb→lt, nltb→le, not-T}
 use lib.ListN.{length}
 use Rattle.rules.specs.Base.{ok}
 use Rattle.rules.specs.Answers.{Ending}
 use Rattle.rules.specs.Syntax.{Program, Method, methodNumbered}
 use Rattle.rules.specs.Reading.{program}
-use Rattle.rules.specs.Machine.{Config, Frame, Heap, Location, Room, Outcome, ends, run, halves, without, valueAt, valueOf, object, valueIn, mainFrame, callFrame, entered, holding, footprint, start}
-use Rattle.rules.specs.Runs.{depth, locations, handedOver, shares, Run, CallStep, During, Existed}
+use Rattle.rules.specs.Machine.{Config, Frame, Heap, Location, Room, ends, halves, valueAt, object, callFrame, entered, holding, footprint, start}
+use Rattle.rules.specs.Runs.{depth, locations, handedOver, Run, Existed}
 use Rattle.rules.proofs.Lists.{cons-head, cons-tail, decide-eq, decide-test}
 use Rattle.rules.proofs.Changes.{holds, step-enters, call-enters}
-use Rattle.rules.proofs.Disjoint.{two-halves, held-exists, shares-cons}
+use Rattle.rules.proofs.Disjoint.{two-halves, held-exists}
 use Rattle.rules.proofs.Sets.{halves-without}
-use Rattle.rules.proofs.Footprints.{footprint-held}
 use Rattle.soundness.proofs.FrameKept.{frame-kept}
-use Rattle.unseen.specs.Unseen.{classesOf, SameAt, Agree, Leaving, left, halted, methodPart, goesOn, resume, Resumed, SameReturn, SameHalt, SameSeen, LeftAlike}
+use Rattle.unseen.specs.Unseen.{SameAt, Agree, Leaving, left, halted, methodPart, goesOn, resume, Resumed, SameReturn, SameHalt, LeftAlike}
 use Rattle.unseen.specs.Handed.{AnswersAlike, SameAnswer, SameCall, Calls, FunctionOfHanded, TwoCatalogues, DependOnHeld, FrameSeparation}
 use Rattle.unseen.proofs.SameSteps.{value-same, footprint-same}
 use Rattle.unseen.proofs.SameParts.{unseen, part-of-run}

@@ -10,15 +10,15 @@ use lib.Dec.{T, ltb, ltb→lt, nltb→le, not-T}
 use lib.ListN.{length, length-append}
 use Rattle.rules.specs.Answers.{Ending, finished, stepsTaken, stopped}
 use Rattle.rules.specs.Syntax.{Program, rowNumbered}
-use Rattle.rules.specs.Machine.{Config, Frame, Heap, Location, Room, Step, Outcome, on, stop, done, step, run, goOn, ends, halves, advance, jump, bind, holding}
+use Rattle.rules.specs.Machine.{Config, Frame, Heap, Location, Room, Step, on, stop, done, step, run, goOn, ends, halves, advance, jump, bind, holding}
 use Rattle.rules.specs.Reading.{program}
 use Rattle.rules.specs.Runs.{depth}
 use Rattle.rules.proofs.Lists.{cons-head, cons-tail, decide-eq}
-use Rattle.rules.proofs.Changes.{holds, Within, Entering, Returning, Change, within, entering, returning, change-within, step-changes}
+use Rattle.rules.proofs.Changes.{holds, Entering, Change, within, entering, returning, change-within, step-changes}
 use Rattle.rules.proofs.Sets.{halves-append}
-use Rattle.unseen.specs.Unseen.{classesOf, SameAt, Agree, Leaving, left, halted, Part, noStep, oneMore, lineOf, partOn, part, methodPart, goesOn, resume, Resumed, SameReturn, SameHalt, SameSeen, Unseen, PartOfRun, NotHandedNotSeen}
+use Rattle.unseen.specs.Unseen.{classesOf, SameAt, Agree, Leaving, left, halted, Part, noStep, oneMore, lineOf, partOn, part, methodPart, goesOn, resume, SameReturn, SameHalt, SameSeen, Unseen, PartOfRun, NotHandedNotSeen}
 use Rattle.unseen.proofs.Shapes.{absent-agrees}
-use Rattle.unseen.proofs.SameSteps.{Moved, stays, enters, returns, Twins, SameStep, other, step-same}
+use Rattle.unseen.proofs.SameSteps.{Moved, stays, enters, returns, Twins, SameStep, step-same}
 
 lengths : {Fs Gs : List Frame} → Fs ≡ Gs → length Fs ≡ length Gs
 lengths e = ap (λ (Fs : List Frame). length Fs) e

@@ -4,14 +4,13 @@ use mathlib.Core.Bool.{Bool, true, false, cond, _&&_}
 use mathlib.Core.List.{List, [], _∷_, _++_, map}
 use Prim.Native.Nat.{ℕ, zero, suc, _≤_}
 use native.Mathlib.Omega.{arith}
-use native.Mathlib.Nat.{le-refl}
 use lib.Dec.{T, eqb, leb, leb→le, eqb→eq, T-not}
 use lib.ListN.{length, getD}
 use Rattle.rules.specs.Base.{Try, ok, no, _>>=_, _>>_, check}
 use Rattle.rules.specs.Answers.{Stop}
 use Rattle.rules.specs.Syntax.{Rel, Permit, Expr, Formula, Operation, Simple, Stmt, Field, Method, Program, methodNumbered, result-variable}
 use Rattle.rules.specs.Syntax.{num, null, var, path, acc, read, chain, own, cmp, set, assign, compute, new, call, return, assert, release, openChain, shutChain, simple, if, else, join, loop, again, end}
-use Rattle.rules.specs.Machine.{Config, Frame, Heap, Location, Room, Step, on, stop, done, took, halves, walk, takeWalk, takeHalves, takeShare, valueAt, valueOf, locate, value, takeFrom, footprint, advance, jump, bind, holding, withFrame, computed}
+use Rattle.rules.specs.Machine.{Config, Frame, Heap, Location, Room, Step, on, stop, done, took, halves, walk, takeWalk, takeShare, valueAt, valueOf, locate, value, takeFrom, footprint, bind, withFrame, computed}
 use Rattle.rules.specs.Machine.{choose, ifStep, elseStep, loopStep, againStep, stored, setStep, assignStep, computeStep, newCell, grown, newStep, callFrame, entered, callStep, returned, assertStep, releaseStep, openStep, shutStep, endStep, returnStep, simpleStep, stepAt, step, statementOf}
 use Rattle.rules.proofs.Lists.{and-both, F-false}
 use Rattle.rules.proofs.Tries.{no-ok, bind-ok, check-ok}

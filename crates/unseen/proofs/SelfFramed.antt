@@ -5,9 +5,9 @@ use mathlib.Core.List.{List, [], _∷_, _++_}
 use mathlib.Core.Logic.{⊎-elim}
 use Prim.Native.Nat.{ℕ, zero, suc, _+_, _≤_}
 use native.Mathlib.Omega.{arith}
-use lib.Dec.{T, eqb, leb, leb→le, le→leb, eqb→eq}
+use lib.Dec.{T, eqb, leb, le→leb, eqb→eq}
 use lib.ListN.{length, replicate}
-use Rattle.rules.specs.Base.{Try, ok, no, _>>=_, _>>_, check, Member, at-head, further}
+use Rattle.rules.specs.Base.{ok, Member}
 use Rattle.rules.specs.Answers.{accepted, refused, unframed, formulaFalse}
 use Rattle.rules.specs.Syntax.{Permit, Expr, Formula, Method, Program, methodNumbered, num, null, var, path, acc, read, chain, isPath, own, cmp}
 use Rattle.rules.specs.Items.{Item}
@@ -16,7 +16,7 @@ use Rattle.rules.specs.Runs.{handedOver}
 use Rattle.rules.specs.Machine.{Config, Frame, Heap, Location, holding, halves, walk, takeWalk, takeHalves, takeShare, takeFrom, footprint, locate, value, valueOf, valueAt, compared, callFrame}
 use Rattle.rules.proofs.Lists.{and-both, decide-eq, F-false, in-any, head-or}
 use Rattle.rules.proofs.Tries.{bind-ok, check-ok, ok-inj, no-ok, bind-of-ok, pass, refused-accepted}
-use Rattle.rules.proofs.Sets.{location-eq, halves-nil, halves-cons, halves-append, at-same, locate-held, locate-is, locate-object, halves-replicate}
+use Rattle.rules.proofs.Sets.{location-eq, halves-nil, halves-cons, halves-append, at-same, locate-is, halves-replicate}
 use Rattle.rules.proofs.Walks.{walk-walks, walk-taken, walk-goes, walk-ends, fewer}
 use Rattle.rules.proofs.Footprints.{taken-grows, halves-taken}
 use Rattle.rules.proofs.Changes.{step-enters, call-enters}

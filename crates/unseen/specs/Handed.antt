@@ -2,7 +2,7 @@
 -- catalogues that differ elsewhere give the same result. With it what the source documents say of frames.
 use mathlib.Core.Path.{_≡_}
 use mathlib.Core.List.{List, [], _∷_}
-use Prim.Native.Nat.{ℕ, suc, _+_, _≤_}
+use Prim.Native.Nat.{ℕ, suc, _≤_}
 use lib.Dec.{T}
 use Rattle.rules.specs.Base.{ok}
 use Rattle.rules.specs.Answers.{accepted}
@@ -61,7 +61,7 @@ TwoCatalogues =
 
 -- THE SOURCES' THEOREMS ON FRAMES
 
--- document 000, 8.2, of expressions: "we can change any number of objects outside of the use frame and still preserve the return value"
+-- document 000, 8.2: what an expression or a formula says depends only on what is held
 abbrev pub DependOnHeld : Type 0
 DependOnHeld =
     (h h′ : Heap) (F : Frame) → ((p : Location) → 1 ≤ halves (F .held) p → SameAt h h′ p) →
@@ -74,7 +74,7 @@ DecidedByFootprint =
     (h h′ : Heap) (F : Frame) (H : List Location) (φ : Formula ℕ) (A : List Location) → T (framed [] φ) → footprint h F φ ≡ ok A →
     ((p : Location) → 1 ≤ halves A p → SameAt h h′ p) → ((p : Location) → halves A p ≤ halves H p) → footprint h′ (holding H F) φ ≡ ok A
 
--- so, of a text that number 10 lets pass, "the same halves handed over" follows from their being held, with one value in both
+-- so, of a text that number 10 lets pass, that the same halves are handed over follows from their being held, with one value in both
 abbrev pub HandsTheSame : Type 0
 HandsTheSame =
     (t : List ℕ) (items : List Item) → readText t ≡ accepted items → checkFramed items 0 ≡ accepted tt → (room : Room) (n : ℕ) (m a : Config)
@@ -84,9 +84,8 @@ HandsTheSame =
     ((p : Location) → halves (handedOver (program items) m y n z) p ≤ halves (m′ .frame .held) p) →
     handedOver (program items) m′ y′ n z′ ≡ handedOver (program items) m y n z
 
--- document 000, 8.3, "Frame separation property": "we can preserve a property on a query q over the call of a routine c if we know that the
--- frame of the query and the frame of the call are separate". The query's frame is what the caller keeps, G: it says what it said, in each
--- state up to the call's end.
+-- document 000, 8.3, frames that are separate: what the caller keeps, G, is not handed over whole. Over G an expression and a formula say what
+-- they said before the `call` step, in each state up to the call's end.
 abbrev pub FrameSeparation : Type 0
 FrameSeparation =
     (t : List ℕ) (items : List Item) → readText t ≡ accepted items → (room : Room) (k : ℕ) (R : Run room (program items) k) (i : ℕ) →

@@ -6,7 +6,7 @@ use std::collections::BTreeSet;
 use std::fs;
 
 /// The statements that docs/ASSURANCE.md makes, and what the contracts of the calls and of the program are equations with.
-pub const CLAIMS: [&str; 8] = [
+pub const CLAIMS: [&str; 10] = [
     "crates/bound_runs/specs/Claims.antt",
     "crates/rules/specs/Areas.antt",
     "crates/rules/specs/Demand.antt",
@@ -15,6 +15,8 @@ pub const CLAIMS: [&str; 8] = [
     "crates/station/specs/Demand.antt",
     "crates/station/specs/Promises.antt",
     "crates/station/specs/Refusals.antt",
+    "crates/unseen/specs/Handed.antt",
+    "crates/unseen/specs/Unseen.antt",
 ];
 
 /// The file of definitions that an import names: `use Rattle.rules.specs.State.{..}`, or `Rattle.rules.specs.State` in its own
