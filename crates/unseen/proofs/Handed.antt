@@ -7,18 +7,21 @@ use native.Mathlib.Omega.{arith}
 use lib.Dec.{ltb, ltb→lt, nltb→le, not-T}
 use lib.ListN.{length}
 use Rattle.rules.specs.Base.{ok}
-use Rattle.rules.specs.Answers.{Ending}
+use Rattle.rules.specs.Answers.{Verdict, Ending, finished, stepsTaken, stopped}
 use Rattle.rules.specs.Syntax.{Program, Method, methodNumbered}
+use Rattle.rules.specs.Items.{Item}
 use Rattle.rules.specs.Reading.{program}
-use Rattle.rules.specs.Machine.{Config, Frame, Heap, Location, Room, ends, halves, valueAt, object, callFrame, entered, holding, footprint, start}
-use Rattle.rules.specs.Runs.{depth, locations, handedOver, Run, Existed}
+use Rattle.rules.specs.Calls.{trialText, runItems, outcomeResult, wholeHeap}
+use Rattle.rules.specs.Machine.{Config, Frame, Heap, Location, Room, ends, halves, valueAt, object, callFrame, entered, holding, footprint, start, on, step, run, goOn, runProgram}
+use Rattle.rules.specs.Runs.{EndedBy, depth, locations, handedOver, Run, Existed}
 use Rattle.rules.proofs.Lists.{cons-head, cons-tail, decide-eq, decide-test}
 use Rattle.rules.proofs.Changes.{holds, step-enters, call-enters}
 use Rattle.rules.proofs.Disjoint.{two-halves, held-exists}
 use Rattle.rules.proofs.Sets.{halves-without}
+use Rattle.soundness.proofs.Demand3.{same-from-both}
 use Rattle.soundness.proofs.FrameKept.{frame-kept}
 use Rattle.unseen.specs.Unseen.{SameAt, Agree, Leaving, left, halted, methodPart, goesOn, resume, Resumed, SameReturn, SameHalt, LeftAlike}
-use Rattle.unseen.specs.Handed.{AnswersAlike, SameAnswer, SameCall, Calls, FunctionOfHanded, TwoCatalogues, DependOnHeld, FrameSeparation}
+use Rattle.unseen.specs.Handed.{AnswersAlike, SameAnswer, Halts, SameAnswered, SameCall, Calls, FunctionOfHanded, TwoCatalogues, DependOnHeld, FrameSeparation}
 use Rattle.unseen.proofs.SameSteps.{value-same, footprint-same}
 use Rattle.unseen.proofs.SameParts.{unseen, part-of-run}
 
@@ -52,31 +55,75 @@ same-answer room P m m′ agree c k n =
     go (halted s e) (left e′) R = R
     go (halted s e) (halted s′ e′) S = ends-same P m m′ e e′ s s′ n c S
 
+-- two parts that halt so, with as many steps: one answer, whatever comes before them
+halted-same :
+    (room : Room) (P : Program) (m m′ : Config) (k n c : ℕ) (l l′ : Leaving) → m′ .callers ≡ m .callers → Halts l → LeftAlike P m m′ l l′ →
+    goesOn room P k n c l′ ≡ goesOn room P k n c l
+unfolding goesOn
+halted-same room P m m′ k n c (left e) l′ w H R = absurd H
+halted-same room P m m′ k n c (halted s e) (left e′) w H R = absurd R
+halted-same room P m m′ k n c (halted s e) (halted s′ e′) w H S = ends-same P m m′ e e′ s s′ (n + c) w S
+
+run-same :
+    (room : Room) (P : Program) (m m′ : Config) → Agree m m′ → m′ .callers ≡ m .callers → (k n : ℕ) → Halts (methodPart room P k m .leaving) →
+    run room P k n m′ ≡ run room P k n m
+run-same room P m m′ agree w k n H =
+    let same = unseen room P m m′ agree k in
+    let l′ : Leaving = methodPart room P k m′ .leaving in
+    part-of-run room P m′ k n
+    ∙ (ap (λ (c : ℕ). goesOn room P k n c l′) (same .count)
+    ∙ (halted-same room P m m′ k n (methodPart room P k m .count) (methodPart room P k m .leaving) l′ w H (same .leaving)
+    ∙ sym (part-of-run room P m k n)))
+
+-- a run goes on from each of its states
+module _ (room : Room) (P : Program) {k : ℕ} (R : Run room P k) where
+  most-steps : (s : Ending) → EndedBy room P k (R .steps) (R .state (R .steps)) s → R .steps ≤ k
+  most-steps finished e = omega (arith, e .0)
+  most-steps stepsTaken e = omega (arith, e)
+  most-steps (stopped s) e = omega (arith, e .0)
+
+  run-on : (j n : ℕ) (m m′ : Config) → step room P m ≡ on m′ → run room P (suc j) n m ≡ run room P j (suc n) m′
+  unfolding run goOn
+  run-on j n m m′ e = rw e refl
+
+  run-from : (i : ℕ) → i ≤ R .steps → run room P k 0 (start P) ≡ run room P (k - i) i (R .state i)
+  run-from zero l =
+      let all : k ≡ k - 0 = omega arith in
+      ap (λ (j : ℕ). run room P j 0 (start P)) all ∙ ap (λ (m : Config). run room P (k - 0) 0 m) (sym (R .first))
+  run-from (suc i) l =
+      let one : k - i ≡ suc (k - suc i) = omega (arith, l, most-steps (R .ending) (R .has-ended)) in
+      run-from i (omega (arith, l))
+      ∙ (ap (λ (j : ℕ). run room P j i (R .state i)) one ∙ run-on (k - suc i) i (R .state i) (R .state (suc i)) (R .next i l))
+
+pub same-answered : SameAnswered
+unfolding trialText runItems runProgram
+same-answered t items e k R i C m′ agree w H =
+    let P : Program = program items in
+    let trial : outcomeResult (run wholeHeap P (k - suc i) (suc i) m′) ≡ trialText t k =
+    ap outcomeResult (run-same wholeHeap P (R .state (suc i)) m′ agree w (k - suc i) (suc i) H ∙ sym (run-from wholeHeap P R (suc i) (C .is-done)))
+    ∙ ap (λ (v : Verdict (List Item)). runItems v k) (sym e) in
+    (trial, λ c. trial ∙ sym (same-from-both t c k))
+
 -- TWO CATALOGUES
 
 no-callers : (Fs : List Frame) → length Fs ≡ 0 → Fs ≡ []
 no-callers [] e = refl
 no-callers (F ∷ Fs) e = absurd (omega (arith, e))
 
+-- main's part is its run: it returns to nobody
+main-halts : (room : Room) (P : Program) (m m′ : Config) → m .callers ≡ [] → (l l′ : Leaving) → LeftAlike P m m′ l l′ → Halts l
+main-halts room P m m′ alone (left e) (left e′) R =
+    absurd (omega (arith, ap (λ (Fs : List Frame). length Fs) (sym alone ∙ R .resumed .callers)))
+main-halts room P m m′ alone (left e) (halted s′ e′) R = absurd R
+main-halts room P m m′ alone (halted s e) l′ R = tt
+
 pub two-catalogues : TwoCatalogues
-unfolding depth goesOn
+unfolding depth
 two-catalogues t items e room m m′ alone agree k n =
     let P : Program = program items in
     let alone′ : m′ .callers ≡ [] = no-callers (m′ .callers) (agree .calls ∙ ap (λ (Fs : List Frame). length Fs) alone) in
-    let same = unseen room P m m′ agree k in
-    let l′ : Leaving = methodPart room P k m′ .leaving in
-    part-of-run room P m′ k n
-    ∙ (ap (λ (c : ℕ). goesOn room P k n c l′) (same .count)
-    ∙ (go (methodPart room P k m .count) (methodPart room P k m .leaving) l′ (alone′ ∙ sym alone) (same .leaving)
-    ∙ sym (part-of-run room P m k n)))
-  where
-    go :
-        (c : ℕ) (l l′ : Leaving) → m′ .callers ≡ m .callers → LeftAlike (program items) m m′ l l′ →
-        goesOn room (program items) k n c l′ ≡ goesOn room (program items) k n c l
-    go c (left e) (left e′) w R = absurd (omega (arith, ap (λ (Fs : List Frame). length Fs) (sym alone ∙ R .resumed .callers)))
-    go c (left e) (halted s′ e′) w R = absurd R
-    go c (halted s e) (left e′) w R = absurd R
-    go c (halted s e) (halted s′ e′) w S = ends-same (program items) m m′ e e′ s s′ (n + c) w S
+    run-same room P m m′ agree (alone′ ∙ sym alone) k n
+    (main-halts room P m m′ alone (methodPart room P k m .leaving) (methodPart room P k m′ .leaving) (unseen room P m m′ agree k .leaving))
 
 -- A FUNCTION OF WHAT IS HANDED OVER
 

@@ -2,7 +2,7 @@
 -- catalogues that differ elsewhere give the same result. With it what the source documents say of frames.
 use mathlib.Core.Path.{_≡_}
 use mathlib.Core.List.{List, [], _∷_}
-use Prim.Native.Nat.{ℕ, suc, _≤_}
+use Prim.Native.Nat.{ℕ, suc, _-_, _≤_}
 use lib.Dec.{T}
 use Rattle.rules.specs.Base.{ok}
 use Rattle.rules.specs.Answers.{accepted}
@@ -10,6 +10,7 @@ use Rattle.rules.specs.Syntax.{Expr, Formula, Program, simple, call}
 use Rattle.rules.specs.Items.{Item}
 use Rattle.rules.specs.Reading.{readText, checkFramed, framed, program}
 use Rattle.rules.specs.Machine.{Heap, Frame, Config, Location, Room, on, step, run, ends, statementOf, footprint, holding, halves, value, valueOf}
+use Rattle.rules.specs.Calls.{checkText, runText, trialText, wholeHeap, outcomeResult}
 use Rattle.rules.specs.Runs.{depth, handedOver, Run, CallStep, During}
 use Rattle.unseen.specs.Unseen.{classesOf, SameAt, Agree, Leaving, left, halted, methodPart, SameSeen}
 
@@ -27,6 +28,22 @@ abbrev pub SameAnswer : Room → Program → Type 0
 SameAnswer room P =
     (m m′ : Config) → Agree m m′ → m′ .callers ≡ m .callers → (k n : ℕ) →
     AnswersAlike P n (methodPart room P k m .leaving) (methodPart room P k m′ .leaving)
+
+-- the run ends in the part
+abbrev pub Halts : Leaving → Type 0
+Halts (left e) = ⊥
+Halts (halted s e) = Unit {0}
+
+-- "This covers trial as well as run": of what they answer. R is the text's run with k allowed steps, and step i + 1 a `call` in it. If the run
+-- ends before that call does, then from each state that agrees with the one after the `call` step it ends with the answer that trial gives
+-- for the text, and run, if check accepts it: number, line, count of steps, values.
+abbrev pub SameAnswered : Type 0
+SameAnswered =
+    (t : List ℕ) (items : List Item) → readText t ≡ accepted items → (k : ℕ) (R : Run wholeHeap (program items) k) (i : ℕ) →
+    CallStep wholeHeap (program items) R i → (m′ : Config) → Agree (R .state (suc i)) m′ → m′ .callers ≡ R .state (suc i) .callers →
+    Halts (methodPart wholeHeap (program items) (k - suc i) (R .state (suc i)) .leaving) →
+    (outcomeResult (run wholeHeap (program items) (k - suc i) (suc i) m′) ≡ trialText t k)
+    × (checkText t .0 ≡ 0 → outcomeResult (run wholeHeap (program items) (k - suc i) (suc i) m′) ≡ runText t k)
 
 -- A FUNCTION OF WHAT IS HANDED OVER
 
