@@ -39,6 +39,7 @@ const SINCE_W7: &[Level] = &[
     ("W8", include_str!("cases/w8.tsv"), 164, &[]),
     ("W9", include_str!("cases/w9.tsv"), 227, &[]),
     ("W10", include_str!("cases/w10.tsv"), 186, &[]),
+    ("W13", include_str!("cases/w13.tsv"), 144, &[]),
 ];
 
 /// Which call a file's `run` is.
