@@ -45,6 +45,7 @@ const SINCE_W7: &[Level] = &[
     ("W10", include_str!("cases/w10.tsv"), 186, &[]),
     ("W11", include_str!("cases/w11.tsv"), 147, &[]),
     ("W12", include_str!("cases/w12.tsv"), 136, &[]),
+    ("W13", include_str!("cases/w13.tsv"), 144, &[]),
 ];
 
 /// Which call a file's `run` is.

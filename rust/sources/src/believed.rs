@@ -6,8 +6,9 @@ use std::collections::BTreeSet;
 use std::fs;
 
 /// The statements that docs/ASSURANCE.md makes, and what the contracts of the calls and of the program are equations with.
-pub const CLAIMS: [&str; 11] = [
+pub const CLAIMS: [&str; 14] = [
     "crates/bound_runs/specs/Claims.antt",
+    "crates/filling/specs/Claims.antt",
     "crates/joint/specs/Claims.antt",
     "crates/joint/specs/Counts.antt",
     "crates/rules/specs/Areas.antt",
@@ -18,6 +19,8 @@ pub const CLAIMS: [&str; 11] = [
     "crates/station/specs/Demand.antt",
     "crates/station/specs/Promises.antt",
     "crates/station/specs/Refusals.antt",
+    "crates/unseen/specs/Handed.antt",
+    "crates/unseen/specs/Unseen.antt",
 ];
 
 /// The file of definitions that an import names: `use Rattle.rules.specs.State.{..}`, or `Rattle.rules.specs.State` in its own

@@ -1,6 +1,6 @@
 //! The answers in sentences, for the text and the page.
 
-use super::claims::{Theorem, AT_A_LINE, BOUND, EVERY_RUN, FRAMES, TRIAL};
+use super::claims::{Theorem, AT_A_LINE, BOUND, EVERY_RUN, FRAMES, FUNCTION, TRIAL, UNSEEN};
 use super::findings::Findings;
 use super::handed::Share;
 use super::methods::{Handed, Row};
@@ -107,6 +107,31 @@ pub fn finishes(findings: &Findings) -> Answer {
             said: number_at(none.number(), none.line()),
             theorems: vec![&EVERY_RUN],
         },
+    }
+}
+
+/// Can it learn what it was not handed?
+pub fn learns(findings: &Findings) -> Answer {
+    match findings.refusal() {
+        None => answer(
+            "No",
+            "From a method's first line to its end, its lines, its count of steps, its result and \
+             its stop are the same, whatever stands in fields of which its `requires` hands over \
+             nothing.",
+            &[&UNSEEN, &FUNCTION],
+        ),
+        Some(refusal) if is_read(refusal) => answer(
+            "No, it does not run",
+            "A run refuses it and does no step. In a trial, too, a method's lines, count of steps, \
+             result and stop are the same, whatever stands in fields of which its `requires` hands \
+             over nothing.",
+            &[&EVERY_RUN, &UNSEEN],
+        ),
+        Some(_) => answer(
+            "No, it does not run",
+            "A run refuses it and does no step.",
+            &[&EVERY_RUN],
+        ),
     }
 }
 

@@ -45,15 +45,30 @@ pub const AT_A_LINE: Theorem = Theorem {
     file: "crates/station/proofs/Refusals.antt",
 };
 
+/// A method does the same, whatever stands in fields that it was not handed: of
+/// each text that the reader takes, so of trials too.
+pub const UNSEEN: Theorem = Theorem {
+    name: "not-handed-not-seen",
+    file: "crates/unseen/proofs/SameParts.antt",
+};
+
+/// What a method does is a function of its arguments and of what it is handed.
+pub const FUNCTION: Theorem = Theorem {
+    name: "function-of-handed",
+    file: "crates/unseen/proofs/Handed.antt",
+};
+
 /// Every theorem that a report names.
 #[cfg(test)]
-pub const THEOREMS: [&Theorem; 6] = [
+pub const THEOREMS: [&Theorem; 8] = [
     &EVERY_RUN,
     &NEVER_STUCK,
     &TRIAL,
     &BOUND,
     &FRAMES,
     &AT_A_LINE,
+    &UNSEEN,
+    &FUNCTION,
 ];
 
 /// The part of these claims on what a call keeps, in their words.

@@ -1,6 +1,7 @@
 //! `station report`: what the licensing authority asks of a script, in one report.
-//! Can it alter a card that it was not handed, and if it does not finish, which
-//! line is the reason? As text, as JSON, and as a page.
+//! Can it alter a card that it was not handed; if it does not finish, which line
+//! is the reason; can it learn what it was not handed? As text, as JSON, and as a
+//! page.
 
 mod answers;
 mod claims;

@@ -144,6 +144,7 @@ pub fn report(findings: &Findings) -> Json {
     let object = identity(findings)
         .with("check", objects::check(Json::object(), &findings.answered))
         .with("proofs", proofs(answers::alters(findings)))
+        .with("unseen", proofs(answers::learns(findings)))
         .with("methods", Json::List(methods.collect()));
     let ran = findings.answered.ran.as_ref();
     let ran = ran.map(|_| objects::report(&findings.answered));

@@ -32,6 +32,7 @@ fn article(findings: &Findings, at: usize, bytes: usize) -> String {
         sections::decision(findings, prefix),
         sections::alters(findings, prefix),
         sections::finishes(findings, prefix),
+        sections::learns(findings, prefix),
         sections::stops(findings, prefix),
         source,
         cards,

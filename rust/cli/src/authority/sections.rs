@@ -1,4 +1,4 @@
-//! The parts of a script's page: identity, decision, the two questions, the stops
+//! The parts of a script's page: identity, decision, the three questions, the stops
 //! and what is assumed.
 
 use super::answers::{self, Answer, COLUMNS};
@@ -226,6 +226,13 @@ pub fn finishes(findings: &Findings, prefix: &str) -> String {
         + &run(findings, prefix);
     let question = "2. If it does not finish, which line is the reason?";
     section(&format!("{prefix}question-2"), question, &inner)
+}
+
+/// Question 3.
+pub fn learns(findings: &Findings, prefix: &str) -> String {
+    let inner = answer(&answers::learns(findings), "learns", prefix);
+    let question = "3. Can it learn what it was not handed?";
+    section(&format!("{prefix}question-3"), question, &inner)
 }
 
 pub fn stops(findings: &Findings, prefix: &str) -> String {

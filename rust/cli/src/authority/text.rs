@@ -162,6 +162,12 @@ fn finishes(out: &mut String, findings: &Findings) {
     run(out, findings);
 }
 
+/// Question 3.
+fn learns(out: &mut String, findings: &Findings) {
+    let _ = writeln!(out, "\n3. Can it learn what it was not handed?");
+    answer(out, "answer", &answers::learns(findings));
+}
+
 fn stop_rows(out: &mut String, findings: &Findings) {
     let _ = writeln!(out, "\nStops of a run");
     for row in stops::rows(findings) {
@@ -188,6 +194,7 @@ pub fn report(findings: &Findings) -> String {
     decision(&mut out, findings);
     alters(&mut out, findings);
     finishes(&mut out, findings);
+    learns(&mut out, findings);
     stop_rows(&mut out, findings);
     assumed(&mut out);
     out

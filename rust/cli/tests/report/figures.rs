@@ -16,6 +16,8 @@ pub fn answers_are(page: &Element, file: &str, said: &Said) {
     let refused = int(&said.check, "number") != 0;
     let verdict = if refused { "refused" } else { "accepted" };
     assert_eq!(page.text_of("s1-verdict"), verdict);
+    let learns = if refused { "No, it does not run" } else { "No" };
+    assert_eq!(page.text_of("s1-learns"), learns);
     if refused {
         let decision = page.text_of("s1-decision");
         assert!(decision.contains(&place(&said.check)), "{decision}");
