@@ -1,7 +1,7 @@
 -- "Each accepted one stands in the list a single time and no refused one does".
-use mathlib.Core.Path.{_≡_, refl, sym, ap, _∙_, subst}
-use mathlib.Core.Bool.{Bool, true, false, cond}
-use mathlib.Core.List.{List, [], _∷_, _++_, map}
+use mathlib.Core.Path.{_≡_, refl, sym, _∙_, subst}
+use mathlib.Core.Bool.{Bool, cond}
+use mathlib.Core.List.{List, [], _∷_, map}
 use mathlib.Core.Logic.{_⊎_, inl, inr, ⊎-elim}
 use Prim.Native.Nat.{ℕ, zero, suc, _≤_}
 use native.Mathlib.Omega.{arith}
@@ -103,9 +103,10 @@ ordered-once (n ∷ l) o m i = go (head-or i) (λ j. ordered-once l b m j)
         length (cond (eqName m n) (n ∷ keep (eqName m) l) (keep (eqName m) l)) ≡ 1
     go (inl j) ih = rw (F-false (eqName m n) (λ t. apart m j (sym (same-name m n t)))) (ih j)
     go (inr e) ih =
-        rw
-        (T-true (eqName m n) (subst (λ k. T (eqName m k)) e (name-same m)),
-        keep-none (eqName m) l (λ k j t. apart k j (sym e ∙ same-name m k t)))
+        rw (
+          T-true (eqName m n) (subst (λ k. T (eqName m k)) e (name-same m)),
+          keep-none (eqName m) l (λ k j t. apart k j (sym e ∙ same-name m k t)),
+        )
         refl
 
 -- THE LIST

@@ -5,13 +5,14 @@ use crate::root;
 use std::collections::BTreeSet;
 use std::fs;
 
-/// The statements that docs/ASSURANCE.md makes, and what the contracts of the calls and of the program are equations with.
-pub const CLAIMS: [&str; 8] = [
+/// The statements that docs/ASSURANCE.md makes, and what the contracts of the calls and of the programs are equations with.
+pub const CLAIMS: [&str; 9] = [
     "crates/bound_runs/specs/Claims.antt",
     "crates/rules/specs/Areas.antt",
     "crates/rules/specs/Demand.antt",
     "crates/rules/specs/Printed.antt",
     "crates/rules/specs/Refusals.antt",
+    "crates/small_list/specs/Claims.antt",
     "crates/station/specs/Demand.antt",
     "crates/station/specs/Promises.antt",
     "crates/station/specs/Refusals.antt",
