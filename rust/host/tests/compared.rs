@@ -21,7 +21,7 @@ use nuyardi::Returned;
 use std::ops::RangeInclusive;
 use std::path::Path;
 
-/// The call of a case on one text; none if it is of the program or of a count.
+/// The call of a case on one text; none if it is of a program or of a count.
 fn call_of(case: &Case) -> Option<(&[u8], Call)> {
     let mut lengths = case.lengths.iter().copied();
     let mut length = |usual| lengths.next().unwrap_or(usual);
@@ -61,7 +61,7 @@ fn day_of(case: &Case) -> Option<(&CountDay, [usize; 2])> {
     }
 }
 
-/// Library and model on a case; false if it is of the program.
+/// Library and model on a case; false if it is of a program.
 fn compared(case: &Case, comparer: &mut Comparer, days: &mut DayComparer) -> bool {
     if let Some((text, call)) = call_of(case) {
         if let Err(difference) = comparer.call(text, call) {
@@ -77,8 +77,8 @@ fn compared(case: &Case, comparer: &mut Comparer, days: &mut DayComparer) -> boo
     true
 }
 
-/// Every line of the model's files, but for those of the program, which has a
-/// test of its own (`program.rs`). The model's tests hold it to the answers that
+/// Every line of the model's files, but for those of the programs, which have
+/// tests of their own (`program.rs`). The model's tests hold it to the answers that
 /// stand there.
 #[test]
 fn every_case() {
@@ -87,7 +87,7 @@ fn every_case() {
         let mut all = 0;
         for case in file.cases() {
             let known = compared(&case, &mut comparer, &mut days);
-            all += usize::from(known || case.of_program().is_some());
+            all += usize::from(known || case.is_program());
         }
         let (name, lines) = (&file.name, file.lines.len());
         assert_eq!(
@@ -132,9 +132,11 @@ fn lines_that_are_no_case() {
         "count 1 2 3 4 5 6 6d 6d - x = 0 0",
         "count 6d = 0 0",
         "run 1 2 3 4 5 6 6d 6d - 6d = 0 0",
+        "small 6d = 0a",
+        "program = 0a",
     ] {
         assert!(!known(line), "{line}");
-        let program = Case::of(line).is_some_and(|case| case.of_program().is_some());
+        let program = Case::of(line).is_some_and(|case| case.is_program());
         assert!(!program, "{line}");
     }
     let test = "include_str!(\"cases/a.tsv\"), include_str!(\"cases/b.tsv\")";
