@@ -21,7 +21,7 @@ ghost use Rattle.printer.specs.Variables.{locals, most-line, most-lines,
 
 // BYTES: each function writes from a place on and returns the place after
 
-fn put(out: &mut [u8], at: usize, b: u8) -> usize
+pub fn put(out: &mut [u8], at: usize, b: u8) -> usize
     requires { ⌜ at < length (now out) ⌝ }
     ensures { λ r. ⌜ Writes (now (out .entry)) at (b ∷ []) (now (out .exit)) r ⌝ }
 {
@@ -29,7 +29,7 @@ fn put(out: &mut [u8], at: usize, b: u8) -> usize
     at + 1
 }
 
-fn put_word(out: &mut [u8], at: usize, w: &[u8]) -> usize
+pub fn put_word(out: &mut [u8], at: usize, w: &[u8]) -> usize
     requires { ⌜ at + length (now w) ≤ length (now out) ⌝ }
     ensures { λ r. ⌜ Writes (now (out .entry)) at (now (w .entry)) (now (out .exit)) r ⌝ }
 {

@@ -66,9 +66,27 @@ fn with_blocks(guide: &str, mut filled: impl FnMut(&Block) -> String) -> String 
     out
 }
 
+/// The lines of a list, those of one length together.
+fn by_length(list: &str) -> String {
+    let most = list.lines().map(str::len).max().unwrap_or(0);
+    let rows = (0..=most).map(|length| {
+        let lines: Vec<&str> = list.lines().filter(|line| line.len() == length).collect();
+        let shown = if length == 0 {
+            "an empty line".to_string()
+        } else {
+            lines.join(" ")
+        };
+        format!("{length} ({}): {shown}\n", lines.len())
+    });
+    rows.collect()
+}
+
 fn fresh(block: &Block) -> String {
     if let Some(name) = block.heading.strip_prefix("script ") {
         return script(name).replace('\t', " ");
+    }
+    if let Some(name) = block.heading.strip_prefix("list ") {
+        return by_length(&script(name));
     }
     if block.heading == "console" {
         let commands = block
@@ -217,6 +235,50 @@ fn mends() {
     }
 }
 
+/// The statements of the last chapter, in the order of their places.
+fn small_statements() -> Vec<String> {
+    let guide = guide();
+    let (_, chapter) = guide
+        .split_once("## Exercises: all small scripts\n")
+        .expect("the last chapter");
+    let rows = chapter.lines().filter(|line| line.ends_with("` |"));
+    let statements = rows.filter_map(|row| row.split('`').nth(1));
+    statements.map(|line| line.replace(' ', "\t")).collect()
+}
+
+/// The mains of so many statements that the library accepts, by their places, in order.
+fn accepted_mains(length: u32) -> Vec<String> {
+    let statements = small_statements();
+    let many = statements.len();
+    let mut accepted = Vec::new();
+    for number in 0..many.pow(length) {
+        let places = (0..length).rev().map(|i| number / many.pow(i) % many);
+        let (mut name, mut body) = (String::new(), String::new());
+        for place in places {
+            name.push_str(&(place + 1).to_string());
+            body.push_str(&format!("{}\n", statements[place]));
+        }
+        let text = format!("class\tS\nfield\tint\tn\nmain\nvar\tS\ts\nvar\tint\ta\n{body}end\n");
+        if nuyardi::check(text.as_bytes()).is_ok() {
+            accepted.push(name);
+        }
+    }
+    accepted
+}
+
+/// The list of small scripts is what the library accepts, and the counts of the exercises are so.
+#[test]
+fn small_scripts() {
+    let list: String = (0..=3)
+        .flat_map(accepted_mains)
+        .map(|name| format!("{name}\n"))
+        .collect();
+    assert_eq!(list, script("crates/small/stdout"));
+    let counts: Vec<usize> = (0..=4).map(|length| accepted_mains(length).len()).collect();
+    assert_eq!(counts, [1, 2, 7, 29, 124]);
+    assert!(guide().contains("22 * 5 + 7 * 2 = 124"));
+}
+
 /// The names of all JSON fields are listed.
 #[test]
 fn json_fields() {
@@ -270,7 +332,8 @@ fn json_fields() {
 fn limits() {
     use nuyardi::limits::*;
     let guide = guide();
-    let (_, table) = guide.split_once("## Limits\n").expect("the last section");
+    let (_, table) = guide.split_once("## Limits\n").expect("the section");
+    let (table, _) = table.split_once("\n## ").expect("the last chapter");
     let numbers: Vec<usize> = table
         .replace(',', "")
         .split(|letter: char| !letter.is_ascii_digit())

@@ -28,6 +28,7 @@ pub mod scope;
 mod shapes;
 pub mod share;
 pub mod showing;
+pub mod small;
 pub mod state;
 pub mod text;
 pub mod watch;
@@ -38,6 +39,7 @@ pub use fill::{fill, Filled};
 pub use machine::Run;
 pub use number::Refusal;
 pub use print::printed;
+pub use small::small;
 
 /// The reader: the program if the text has none of the numbers 2 to 9.
 pub fn read(text: &[u8]) -> Result<names::Program<'_>, Refusal> {

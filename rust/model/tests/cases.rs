@@ -7,7 +7,7 @@ use model::limits::{
     BOUND_BYTES, COUNT_BYTES, PLACE_BYTES, RESULT_BYTES, SCRIPT_BYTES, WORK_BYTES,
 };
 use model::{
-    bound_call, check_call, count_call, fill_call, lean_call, printed, run_call, trial_call,
+    bound_call, check_call, count_call, fill_call, lean_call, printed, run_call, small, trial_call,
 };
 use std::collections::HashMap;
 
@@ -46,6 +46,7 @@ const SINCE_W7: &[Level] = &[
     ("W11", include_str!("cases/w11.tsv"), 147, &[]),
     ("W12", include_str!("cases/w12.tsv"), 136, &[]),
     ("W13", include_str!("cases/w13.tsv"), 144, &[]),
+    ("W14", include_str!("cases/w14.tsv"), 192, &[]),
 ];
 
 /// Which call a file's `run` is.
@@ -55,8 +56,8 @@ enum Runs {
     Trial,
 }
 
-/// A call of a file: `check`, `check/W`, `run` or `run/W/R` and so on, or the
-/// program.
+/// A call of a file: `check`, `check/W`, `run` or `run/W/R` and so on, or one of the
+/// programs.
 struct Case<'a> {
     call: &'a str,
     work: usize,
@@ -95,6 +96,7 @@ fn parse(left: &str, runs: Runs) -> Case<'_> {
     };
     let (work, second) = (length(WORK_BYTES), length(usual));
     let (numbers, texts) = match (name, &fields[1..]) {
+        ("small", none @ []) => (none, none),
         ("check" | "bound" | "fill" | "program", texts @ [_]) => (&[][..], texts),
         ("run" | "trial" | "lean", both @ [_, _]) => both.split_at(1),
         ("count", all @ [_, _, _, _, _, _, _, _, _, _]) => all.split_at(6),
@@ -163,9 +165,13 @@ fn returned(case: &Case, work: &mut [u8], second: &mut [u8]) -> u32 {
 /// Makes the call over areas full of garbage and gives its answer as the file
 /// has it; the areas must be as document 01 says.
 fn answer(case: &Case) -> String {
-    if case.call == "program" {
-        let printed = printed(&case.texts[0]).into_iter();
-        return printed.map(|byte| format!("{byte:02x}")).collect();
+    let program = match case.call {
+        "program" => Some(printed(&case.texts[0])),
+        "small" => Some(small().into_bytes()),
+        _ => None,
+    };
+    if let Some(printed) = program {
+        return printed.iter().map(|byte| format!("{byte:02x}")).collect();
     }
     let mut work = vec![0xa5; case.work];
     let mut second = vec![0x5a; case.second];

@@ -5,8 +5,8 @@ use crate::root;
 use std::collections::BTreeSet;
 use std::fs;
 
-/// The statements that docs/ASSURANCE.md makes, and what the contracts of the calls and of the program are equations with.
-pub const CLAIMS: [&str; 14] = [
+/// The statements that docs/ASSURANCE.md makes, and what the contracts of the calls and of the programs are equations with.
+pub const CLAIMS: [&str; 15] = [
     "crates/bound_runs/specs/Claims.antt",
     "crates/filling/specs/Claims.antt",
     "crates/joint/specs/Claims.antt",
@@ -16,6 +16,7 @@ pub const CLAIMS: [&str; 14] = [
     "crates/rules/specs/Printed.antt",
     "crates/rules/specs/Refusals.antt",
     "crates/station/specs/Counts.antt",
+    "crates/small_list/specs/Claims.antt",
     "crates/station/specs/Demand.antt",
     "crates/station/specs/Promises.antt",
     "crates/station/specs/Refusals.antt",

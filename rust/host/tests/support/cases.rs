@@ -15,6 +15,7 @@ pub struct Case {
 
 /// What a call is given beside its areas.
 pub enum Given {
+    Nothing,
     Text(Vec<u8>),
     Steps(u32, Vec<u8>),
     Count(CountDay),
@@ -46,6 +47,7 @@ fn day(numbers: [&str; 6], texts: [&str; 4]) -> Option<CountDay> {
 impl Given {
     fn of(fields: &[&str]) -> Option<Given> {
         Some(match *fields {
+            [] => Given::Nothing,
             [text] => Given::Text(bytes(text)?),
             [steps, text] => Given::Steps(steps.parse().ok()?, bytes(text)?),
             [n, rounds, a, b, c, d, one, two, three, four] => {
@@ -72,7 +74,17 @@ impl Case {
         })
     }
 
-    /// The text, if it is of the program and not of a call.
+    /// Is it of W14's program, which reads nothing?
+    pub fn is_small(&self) -> bool {
+        self.call == "small" && matches!(self.given, Given::Nothing)
+    }
+
+    /// Is it of a program and not of a call?
+    pub fn is_program(&self) -> bool {
+        self.is_small() || self.of_program().is_some()
+    }
+
+    /// The text, if it is of document 01's program.
     pub fn of_program(&self) -> Option<&[u8]> {
         match &self.given {
             Given::Text(text) if self.call == "program" => Some(text),
