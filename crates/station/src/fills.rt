@@ -14,10 +14,10 @@ ghost use Rattle.tables.specs.Decode.{programIn, atomCount, methodCount};
 ghost use Rattle.tables.specs.Tables.{Tables};
 ghost use Rattle.station.specs.Station.{FillAs, setAtStar};
 
-// By the tables, for the star of the text. No set makes good a line that number 10 refuses.
-fn fill_star(work: &mut [u8], star: Star, places: &mut [u8]) -> Reply
-    requires { ⌜ Tables (now work) × (star .method < methodCount (now work)) × (atomCount (now work) + most-filled ≤ most-atom-rows) × (now places ≡ replicate places-bytes 0) ⌝ }
-    ensures { λ f. ⌜ FillAs (fillNumbers (setAtStar (programIn (now (work .entry))) star)) f (now (places .exit)) × (length (now (work .exit)) ≡ work-bytes) ⌝ }
+// By the tables, for the star of the text: its places are left in `set`. No set makes good a line that number 10 refuses.
+fn fill_star(work: &mut [u8], star: Star, set: &mut [u8]) -> Reply
+    requires { ⌜ Tables (now work) × (star .method < methodCount (now work)) × (atomCount (now work) + most-filled ≤ most-atom-rows) × (now set ≡ replicate places-bytes 0) ⌝ }
+    ensures { λ f. ⌜ FillAs (fillNumbers (setAtStar (programIn (now (work .entry))) star)) f (now (set .exit)) × (length (now (work .exit)) ≡ work-bytes) ⌝ }
 {
     if star.unframed != 0 {
         return Reply {
@@ -25,10 +25,10 @@ fn fill_star(work: &mut [u8], star: Star, places: &mut [u8]) -> Reply
             line: star.line,
         };
     }
-    if filler::fill(work, star.method, star.class, star.parameter, places) {
+    if filler::fill(work, star.method, star.class, star.parameter, set) {
         return Reply { number: 0, line: 0 };
     }
-    areas::clear(places);
+    areas::clear(set);
     Reply {
         number: Number::NO_SET_ACCEPTED,
         line: star.line,
