@@ -6,7 +6,7 @@ use nuyardi::limits;
 use std::time::{SystemTime, UNIX_EPOCH};
 
 /// The level of the language: the last request of document 02 that has landed.
-pub const LEVEL: &str = "W10";
+pub const LEVEL: &str = "W14";
 /// The version of the command and the library.
 pub const VERSION: &str = env!("CARGO_PKG_VERSION");
 /// The sha256 of the library that is linked.
