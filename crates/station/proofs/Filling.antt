@@ -2,7 +2,7 @@
 use mathlib.Core.Path.{_≡_, refl, sym, ap, ap₂, subst, _∙_}
 use mathlib.Core.Bool.{Bool, true, false, cond}
 use mathlib.Core.List.{List, [], _∷_, _++_}
-use mathlib.Core.Logic.{_⊎_, inl, inr}
+use mathlib.Core.Logic.{inl, inr}
 use mathlib.Core.Option.{Option, none, some}
 use Prim.Native.Nat.{ℕ, suc, _+_, _≤_, _<_}
 use native.Mathlib.Omega.{arith}
@@ -11,24 +11,24 @@ use lib.ListN.{length, replicate, length-append}
 use borrow.Author.Tests.{eq-eqb, ne-eqb, eqb-true, le-ltb, ltb-false}
 use Rattle.rules.specs.Base.{Name}
 use Rattle.rules.specs.Limits.{most-bytes, places-bytes}
-use Rattle.rules.specs.Answers.{Refusal, Verdict, accepted, refused, then, refusalNumber, textTooLong, noSetAccepted, notOneStar}
+use Rattle.rules.specs.Answers.{Refusal, Verdict, accepted, refused, then, refusalNumber, textTooLong, unframed, noSetAccepted, notOneStar}
 use Rattle.rules.specs.Syntax.{Program}
 use Rattle.rules.specs.Text.{line-feed, lines, onto}
 use Rattle.rules.specs.Grammar.{Line}
 use Rattle.rules.specs.Places.{firstPlace, scanLines}
 use Rattle.rules.specs.Scope.{declarations, firstScope}
+use Rattle.rules.specs.Names.{classNumber}
 use Rattle.rules.specs.Items.{Item, resolveLines}
-use Rattle.rules.specs.Reading.{readText, checkFramed, program}
+use Rattle.rules.specs.Reading.{readText, program}
 use Rattle.rules.specs.Fill.{isStarred, starsFrom, atomWords, requiresLine, withAtoms}
 use Rattle.rules.specs.Calls.{Filled, isAccepted, setFound, firstSet, fillStars, fillLines, fillSet, fillNumbers, fillText}
 use Rattle.rules.specs.Areas.{cleared}
-use Rattle.rules.proofs.Tries.{refused-accepted, accepted-inj, refusal-not-zero, then-accepted}
+use Rattle.rules.proofs.Tries.{refused-accepted, refusal-not-zero, then-accepted}
 use Rattle.soundness.proofs.ReadRefuses.{read-refused}
 use Rattle.filling.specs.Sets.{accessesIn, accessesOfLine, methodOfLine, headerOf, setIn, setFor}
 use Rattle.filling.specs.Claims.{joined, OneStar}
 use Rattle.filling.proofs.Joined.{lines-joined}
 use Rattle.filling.proofs.Search.{search-over-programs}
-use Rattle.rules.specs.Names.{classNumber}
 use Rattle.tables.specs.Decode.{programIn}
 use Rattle.reader.specs.declared.Refusal as Reasons
 use Rattle.reader.specs.Readings.{refusalOf, framedVerdict}
@@ -120,7 +120,7 @@ framed-accepts : (u : ℕ) → isAccepted (framedVerdict u) ≡ eqb u 0
 unfolding isAccepted framedVerdict
 framed-accepts u = go (eqb u 0)
   where
-    go : (b : Bool) → isAccepted {A = Unit {0}} (cond b (accepted tt) (refused Rattle.rules.specs.Answers.unframed u)) ≡ b
+    go : (b : Bool) → isAccepted {A = Unit {0}} (cond b (accepted tt) (refused unframed u)) ≡ b
     go true = refl
     go false = refl
 
