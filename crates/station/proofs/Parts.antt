@@ -21,7 +21,7 @@ use Rattle.tables.specs.Stores.{putWord}
 use Rattle.joint.specs.Counts.{Asked, textAt, shareAt, SharesRight, noResult, resultAt, CountsAlone, RefusesShares}
 use Rattle.joint.proofs.Shares.{decide-lt}
 use Rattle.joint.proofs.Counts.{fit-right, right-fit, counts-alone, refuses}
-use Rattle.station.specs.declared.counts.Script.{Script}
+use Rattle.station.specs.declared.counts.Joint.{Joint}
 use Rattle.station.specs.declared.Reply.{Reply}
 use Rattle.station.specs.Station.{numbersIn, runNumbers, RunLeaves}
 use Rattle.station.specs.Parts.{partOf, putPart}
@@ -84,19 +84,19 @@ unfolding scriptBytes resultBytes wordBytes
 script-length r e = omega (arith, bytes-length (r .steps ∷ r .values), e)
 
 -- A PART
-module _ (s : Script) (t : List ℕ) where
-  pub part-past : s .scripts ≤ s .number → replicate script-bytes 0 ≡ partOf s t
-  part-past l = sym (rw (le-ltb (s .number) (s .scripts) l))
+module _ (c : Joint) (i k : ℕ) (t : List ℕ) where
+  pub part-past : c .scripts ≤ i → replicate script-bytes 0 ≡ partOf c i k t
+  part-past l = sym (rw (le-ltb i (c .scripts) l))
 
-  pub part-there : s .number < s .scripts → scriptBytes (runTextIn (roomOf (s .share)) t (s .rounds)) ≡ partOf s t
-  part-there l = sym (rw (lt-ltb (s .number) (s .scripts) l))
+  pub part-there : i < c .scripts → scriptBytes (runTextIn (roomOf k) t (c .rounds)) ≡ partOf c i k t
+  part-there l = sym (rw (lt-ltb i (c .scripts) l))
 
-  pub part-length : (s .number < s .scripts → s .share ≤ heap-objects) → length (partOf s t) ≡ script-bytes
+  part-length : (i < c .scripts → k ≤ heap-objects) → length (partOf c i k t) ≡ script-bytes
   part-length h =
       ⊎-elim
-      (λ l. ap (λ (p : List ℕ). length p) (sym (part-there l)) ∙ script-length _ (share-fits (s .share) (h l) t (s .rounds) .shown))
+      (λ l. ap (λ (p : List ℕ). length p) (sym (part-there l)) ∙ script-length _ (share-fits k (h l) t (c .rounds) .shown))
       (λ l. ap (λ (p : List ℕ). length p) (sym (part-past l)))
-      (decide-lt (s .number) (s .scripts))
+      (decide-lt i (c .scripts))
 
 -- the parts before it, and what the area held behind
 pub record Written (area : List ℕ) (i : ℕ) (x now : List ℕ) : Type 0 where
@@ -183,25 +183,28 @@ module _ (q : Asked) (w b : List ℕ) where
       pub share-fits-heap : (i : ℕ) → i < most-scripts → i < q .scripts → shareAt q i ≤ heap-objects
       share-fits-heap = share-small q right
 
-      -- script i as the code has it
-      abbrev at : ℕ → Script
-      at i = record { scripts = q .scripts; rounds = q .rounds; number = i; share = shareAt q i }
+      abbrev c : Joint
+      c = record { scripts = q .scripts; rounds = q .rounds }
 
-      part-is : (i : ℕ) → i < most-scripts → partOf (at i) (textAt q i) ≡ scriptBytes (resultAt q i)
+      -- the part of script i, as the code has it
+      abbrev part : ℕ → List ℕ
+      part i = partOf c i (shareAt q i) (textAt q i)
+
+      part-is : (i : ℕ) → i < most-scripts → part i ≡ scriptBytes (resultAt q i)
       unfolding scriptBytes resultBytes wordsBytes wordBytes packed refusedResult
       part-is i h =
           let C : CountsAlone q = counts-alone q right in
           ⊎-elim
-          (λ l. sym (part-there (at i) (textAt q i) l) ∙ ap scriptBytes (sym (C .each i l)))
-          (λ l. sym (part-past (at i) (textAt q i) l) ∙ ap scriptBytes (sym (C .past i l)))
+          (λ l. sym (part-there c i (shareAt q i) (textAt q i) l) ∙ ap scriptBytes (sym (C .each i l)))
+          (λ l. sym (part-past c i (shareAt q i) (textAt q i) l) ∙ ap scriptBytes (sym (C .past i l)))
           (decide-lt i (q .scripts))
 
-      long : (i : ℕ) → i < most-scripts → length (partOf (at i) (textAt q i)) ≡ script-bytes
-      long i h = part-length (at i) (textAt q i) (share-small q right i h)
+      long : (i : ℕ) → i < most-scripts → length (part i) ≡ script-bytes
+      long i h = part-length c i (shareAt q i) (textAt q i) (share-small q right i h)
 
       pub counted :
-          {b₁ b₂ b₃ b₄ : List ℕ} → b₁ ≡ putPart b 0 (partOf (at 0) (textAt q 0)) → b₂ ≡ putPart b₁ 1 (partOf (at 1) (textAt q 1)) →
-          b₃ ≡ putPart b₂ 2 (partOf (at 2) (textAt q 2)) → b₄ ≡ putPart b₃ 3 (partOf (at 3) (textAt q 3)) → (v : List ℕ) {u : List ℕ} →
+          {b₁ b₂ b₃ b₄ : List ℕ} → b₁ ≡ putPart b 0 (part 0) → b₂ ≡ putPart b₁ 1 (part 1) →
+          b₃ ≡ putPart b₂ 2 (part 2) → b₄ ≡ putPart b₃ 3 (part 3) → (v : List ℕ) {u : List ℕ} →
           length v ≡ work-bytes → u ≡ cleared v → RunLeaves call 0 u b₄
       unfolding countCall packed areasFit
       counted {b₁} {b₂} {b₃} {b₄} e₁ e₂ e₃ e₄ v s c =
@@ -212,7 +215,7 @@ module _ (q : Asked) (w b : List ℕ) where
               b₄
               ≡ ((scriptBytes (resultAt q 0) ++ scriptBytes (resultAt q 1)) ++ scriptBytes (resultAt q 2)) ++ scriptBytes (resultAt q 3)
           bytes =
-              let p : ℕ → List ℕ = λ i. partOf (at i) (textAt q i) in
+              let p : ℕ → List ℕ = part in
               let n : length b ≡ count-bytes = fit-lengths w b m .1 in
               let W = one-more b [] b (p 0) b₁ 0 (none-written b) (long 0 (omega arith)) e₁ in
               let X = one-more b (p 0) b₁ (p 1) b₂ 1 W (long 1 (omega arith)) e₂ in

@@ -9,13 +9,12 @@ use Rattle.rules.specs.Limits.{script-bytes}
 use Rattle.rules.specs.Joint.{roomOf}
 use Rattle.rules.specs.Calls.{runTextIn}
 use Rattle.rules.specs.Areas.{scriptBytes, countCall}
-use Rattle.station.specs.declared.counts.Script.{Script}
+use Rattle.station.specs.declared.counts.Joint.{Joint}
 use Rattle.station.specs.Station.{RunLeaves}
 
--- the 56 bytes of a script with this text: zeros past the count
-abbrev pub partOf : Script → List ℕ → List ℕ
-partOf s t =
-    cond (ltb (s .number) (s .scripts)) (scriptBytes (runTextIn (roomOf (s .share)) t (s .rounds))) (replicate script-bytes 0)
+-- the 56 bytes of script i, with this share and this text: zeros past the count
+abbrev pub partOf : Joint → ℕ → ℕ → List ℕ → List ℕ
+partOf c i k t = cond (ltb i (c .scripts)) (scriptBytes (runTextIn (roomOf k) t (c .rounds))) (replicate script-bytes 0)
 
 -- the results area with the part of script i written so
 abbrev pub putPart : List ℕ → ℕ → List ℕ → List ℕ

@@ -15,16 +15,14 @@ ghost use Rattle.rules.specs.Calls.{runTextIn};
 ghost use Rattle.rules.specs.Areas.{scriptBytes};
 ghost use Rattle.station.specs.Parts.{partOf, putPart, CountLeaves};
 
-// One script of a run: its number from 0, and its share; the count of scripts, and the rounds.
-pub struct Script {
+// A joint run: how many scripts there are, and the rounds.
+pub struct Joint {
     pub scripts: u32,
     pub rounds: u32,
-    pub number: usize,
-    pub share: u32,
 }
 
-impl Script {
-    // The number of the fourth.
+impl Joint {
+    // The number of the fourth script.
     const LAST: usize = Machine::SCRIPTS - 1;
 }
 
@@ -40,18 +38,18 @@ fn count_script(text: &[u8], work: &mut [u8], rounds: u32, share: u32, part: &mu
     tables::put_word(part, 0, returned);
 }
 
-// The script's part of the results, or zeros past the count.
-fn count_part(s: Script, text: &[u8], work: &mut [u8], results: &mut [u8])
-    requires { ⌜ ((s .number < most-scripts) × (s .number < s .scripts → s .share ≤ heap-objects)) × (length (now work) ≡ work-bytes) × (length (now results) ≡ count-bytes) ⌝ }
-    ensures { λ _. ⌜ (now (results .exit) ≡ putPart (now (results .entry)) (s .number) (partOf s (now (text .entry)))) × (length (now (work .exit)) ≡ work-bytes) ⌝ }
+// The part of the results that script i has: zeros past the count.
+fn count_part(j: Joint, i: usize, share: u32, text: &[u8], work: &mut [u8], results: &mut [u8])
+    requires { ⌜ ((i < most-scripts) × (i < j .scripts → share ≤ heap-objects)) × (length (now work) ≡ work-bytes) × (length (now results) ≡ count-bytes) ⌝ }
+    ensures { λ _. ⌜ (now (results .exit) ≡ putPart (now (results .entry)) i (partOf j i share (now (text .entry)))) × (length (now (work .exit)) ≡ work-bytes) ⌝ }
 {
-    let at = s.number * Machine::SCRIPT_BYTES;
+    let at = i * Machine::SCRIPT_BYTES;
     let end = at + Machine::SCRIPT_BYTES;
-    if s.number >= s.scripts as usize {
+    if i >= j.scripts as usize {
         areas::clear(&mut results[at..end]);
         return;
     }
-    count_script(text, work, s.rounds, s.share, &mut results[at..end]);
+    count_script(text, work, j.rounds, share, &mut results[at..end]);
 }
 
 // Up to four scripts over one heap, each in its share, one step a round: 0, or number 19; for each script what run returns, then its results,
@@ -82,10 +80,11 @@ pub extern "C" fn count(
         areas::clear(results);
         return Reply::WRONG_SHARES;
     }
-    count_part(Script { scripts, rounds, number: 0, share: share1 }, text1, work, results);
-    count_part(Script { scripts, rounds, number: 1, share: share2 }, text2, work, results);
-    count_part(Script { scripts, rounds, number: 2, share: share3 }, text3, work, results);
-    count_part(Script { scripts, rounds, number: Script::LAST, share: share4 }, text4, work, results);
+    let j = Joint { scripts, rounds };
+    count_part(j, 0, share1, text1, work, results);
+    count_part(j, 1, share2, text2, work, results);
+    count_part(j, 2, share3, text3, work, results);
+    count_part(j, Joint::LAST, share4, text4, work, results);
     areas::clear(work);
     0
 }

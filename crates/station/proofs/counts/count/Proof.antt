@@ -20,7 +20,11 @@ same-length-2 c = search needs
 returns : tie.Need-returns
 returns c =
     let start = c .before .before .before .before .before .before .before .before .before .before in
-    wrong-count (asked (start .args .scripts) (start .args .rounds) (start .args .text1 .now) (start .args .text2 .now) (start .args .text3 .now) (start .args .text4 .now) (start .args .share1) (start .args .share2) (start .args .share3) (start .args .share4)) (start .args .work .now) (start .args .results .now) (sym (c .before .fit .ensures) ∙ not-true _ (c .if1 .taken))
+    let q = asked (start .args .scripts) (start .args .rounds) (start .args .text1 .now) (start .args .text2 .now) (start .args .text3 .now) (start .args .text4 .now)
+    (start .args .share1) (start .args .share2) (start .args .share3) (start .args .share4) in
+    let w = start .args .work .now in
+    let b = start .args .results .now in
+    wrong-count q w b (sym (c .before .fit .ensures) ∙ not-true _ (c .if1 .taken))
 
 slice-aggregate-shares-fit : tie.Need-slice-aggregate-shares-fit
 slice-aggregate-shares-fit c = search needs
@@ -49,7 +53,11 @@ returns-2 c =
     let at-if2 = c .before .before .before .before .before .before .before .before .if2 in
     let at-clear = c .before .before .before .before .before .before .clear in
     let at-clear2 = c .before .before .clear2 in
-    shares-refused (asked (start .args .scripts) (start .args .rounds) (start .args .text1 .now) (start .args .text2 .now) (start .args .text3 .now) (start .args .text4 .now) (start .args .share1) (start .args .share2) (start .args .share3) (start .args .share4)) (start .args .work .now) (start .args .results .now) (sym (at-fit .ensures) ∙ not-false _ (at-if1 .left)) (sym (at-shares-fit .ensures) ∙ not-true _ (at-if2 .taken)) (at-clear .ensures) (at-clear2 .ensures)
+    let q = asked (start .args .scripts) (start .args .rounds) (start .args .text1 .now) (start .args .text2 .now) (start .args .text3 .now) (start .args .text4 .now)
+    (start .args .share1) (start .args .share2) (start .args .share3) (start .args .share4) in
+    let w = start .args .work .now in
+    let b = start .args .results .now in
+    shares-refused q w b (sym (at-fit .ensures) ∙ not-false _ (at-if1 .left)) (sym (at-shares-fit .ensures) ∙ not-true _ (at-if2 .taken)) (at-clear .ensures) (at-clear2 .ensures)
 
 count-part-requires : tie.Need-count-part-requires
 count-part-requires c κs =
@@ -58,7 +66,12 @@ count-part-requires c κs =
     let at-if1 = c .before .before .before .before .before .if1 in
     let at-shares-fit = c .before .before .before .shares-fit in
     let at-if2 = c .before .before .if2 in
-    let q = asked (start .args .scripts) (start .args .rounds) (start .args .text1 .now) (start .args .text2 .now) (start .args .text3 .now) (start .args .text4 .now) (start .args .share1) (start .args .share2) (start .args .share3) (start .args .share4) in let w = start .args .work .now in let b = start .args .results .now in let m = sym (at-fit .ensures) ∙ not-false _ (at-if1 .left) in ((omega arith, share-fits-heap q w b m (sym (at-shares-fit .ensures) ∙ not-false _ (at-if2 .left)) 0 (omega arith)), fit-lengths w b m .0, fit-lengths w b m .1)
+    let q = asked (start .args .scripts) (start .args .rounds) (start .args .text1 .now) (start .args .text2 .now) (start .args .text3 .now) (start .args .text4 .now)
+    (start .args .share1) (start .args .share2) (start .args .share3) (start .args .share4) in
+    let w = start .args .work .now in
+    let b = start .args .results .now in
+    let m = sym (at-fit .ensures) ∙ not-false _ (at-if1 .left) in
+    ((omega arith, share-fits-heap q w b m (sym (at-shares-fit .ensures) ∙ not-false _ (at-if2 .left)) 0 (omega arith)), fit-lengths w b m .0, fit-lengths w b m .1)
 
 count-part-requires-2 : tie.Need-count-part-requires-2
 count-part-requires-2 c κs =
@@ -68,7 +81,12 @@ count-part-requires-2 c κs =
     let at-shares-fit = c .before .before .before .before .before .before .before .before .before .before .shares-fit in
     let at-if2 = c .before .before .before .before .before .before .before .before .before .if2 in
     let at-count-part = c .before .before .before .before .before .before .count-part in
-    let q = asked (start .args .scripts) (start .args .rounds) (start .args .text1 .now) (start .args .text2 .now) (start .args .text3 .now) (start .args .text4 .now) (start .args .share1) (start .args .share2) (start .args .share3) (start .args .share4) in let w = start .args .work .now in let b = start .args .results .now in let m = sym (at-fit .ensures) ∙ not-false _ (at-if1 .left) in ((omega arith, share-fits-heap q w b m (sym (at-shares-fit .ensures) ∙ not-false _ (at-if2 .left)) 1 (omega arith)), at-count-part .ensures .1, at-count-part .kept .1 .1 .1 .0 ∙ fit-lengths w b m .1)
+    let q = asked (start .args .scripts) (start .args .rounds) (start .args .text1 .now) (start .args .text2 .now) (start .args .text3 .now) (start .args .text4 .now)
+    (start .args .share1) (start .args .share2) (start .args .share3) (start .args .share4) in
+    let w = start .args .work .now in
+    let b = start .args .results .now in
+    let m = sym (at-fit .ensures) ∙ not-false _ (at-if1 .left) in
+    ((omega arith, share-fits-heap q w b m (sym (at-shares-fit .ensures) ∙ not-false _ (at-if2 .left)) 1 (omega arith)), at-count-part .ensures .1, at-count-part .kept .1 .1 .1 .1 .1 .0 ∙ fit-lengths w b m .1)
 
 count-part-requires-3 : tie.Need-count-part-requires-3
 count-part-requires-3 c κs =
@@ -79,7 +97,12 @@ count-part-requires-3 c κs =
     let at-if2 = c .before .before .before .before .before .before .before .before .before .before .before .before .before .before .before .before .if2 in
     let at-count-part = c .before .before .before .before .before .before .before .before .before .before .before .before .before .count-part in
     let at-count-part2 = c .before .before .before .before .before .before .count-part2 in
-    let q = asked (start .args .scripts) (start .args .rounds) (start .args .text1 .now) (start .args .text2 .now) (start .args .text3 .now) (start .args .text4 .now) (start .args .share1) (start .args .share2) (start .args .share3) (start .args .share4) in let w = start .args .work .now in let b = start .args .results .now in let m = sym (at-fit .ensures) ∙ not-false _ (at-if1 .left) in ((omega arith, share-fits-heap q w b m (sym (at-shares-fit .ensures) ∙ not-false _ (at-if2 .left)) 2 (omega arith)), at-count-part2 .ensures .1, at-count-part2 .kept .1 .1 .1 .0 ∙ (at-count-part .kept .1 .1 .1 .0 ∙ fit-lengths w b m .1))
+    let q = asked (start .args .scripts) (start .args .rounds) (start .args .text1 .now) (start .args .text2 .now) (start .args .text3 .now) (start .args .text4 .now)
+    (start .args .share1) (start .args .share2) (start .args .share3) (start .args .share4) in
+    let w = start .args .work .now in
+    let b = start .args .results .now in
+    let m = sym (at-fit .ensures) ∙ not-false _ (at-if1 .left) in
+    ((omega arith, share-fits-heap q w b m (sym (at-shares-fit .ensures) ∙ not-false _ (at-if2 .left)) 2 (omega arith)), at-count-part2 .ensures .1, at-count-part2 .kept .1 .1 .1 .1 .1 .0 ∙ (at-count-part .kept .1 .1 .1 .1 .1 .0 ∙ fit-lengths w b m .1))
 
 count-part-requires-4 : tie.Need-count-part-requires-4
 count-part-requires-4 c κs =
@@ -91,7 +114,12 @@ count-part-requires-4 c κs =
     let at-count-part = c .before .before .before .before .before .before .before .before .before .before .before .before .before .before .before .before .before .before .before .before .count-part in
     let at-count-part2 = c .before .before .before .before .before .before .before .before .before .before .before .before .before .count-part2 in
     let at-count-part3 = c .before .before .before .before .before .before .count-part3 in
-    let q = asked (start .args .scripts) (start .args .rounds) (start .args .text1 .now) (start .args .text2 .now) (start .args .text3 .now) (start .args .text4 .now) (start .args .share1) (start .args .share2) (start .args .share3) (start .args .share4) in let w = start .args .work .now in let b = start .args .results .now in let m = sym (at-fit .ensures) ∙ not-false _ (at-if1 .left) in ((omega arith, share-fits-heap q w b m (sym (at-shares-fit .ensures) ∙ not-false _ (at-if2 .left)) 3 (omega arith)), at-count-part3 .ensures .1, at-count-part3 .kept .1 .1 .1 .0 ∙ (at-count-part2 .kept .1 .1 .1 .0 ∙ (at-count-part .kept .1 .1 .1 .0 ∙ fit-lengths w b m .1)))
+    let q = asked (start .args .scripts) (start .args .rounds) (start .args .text1 .now) (start .args .text2 .now) (start .args .text3 .now) (start .args .text4 .now)
+    (start .args .share1) (start .args .share2) (start .args .share3) (start .args .share4) in
+    let w = start .args .work .now in
+    let b = start .args .results .now in
+    let m = sym (at-fit .ensures) ∙ not-false _ (at-if1 .left) in
+    ((omega arith, share-fits-heap q w b m (sym (at-shares-fit .ensures) ∙ not-false _ (at-if2 .left)) 3 (omega arith)), at-count-part3 .ensures .1, at-count-part3 .kept .1 .1 .1 .1 .1 .0 ∙ (at-count-part2 .kept .1 .1 .1 .1 .1 .0 ∙ (at-count-part .kept .1 .1 .1 .1 .1 .0 ∙ fit-lengths w b m .1)))
 
 clear-requires-3 : tie.Need-clear-requires-3
 clear-requires-3 c κs = search needs
@@ -114,7 +142,11 @@ returns-3 c =
     let at-count-part3 = c .before .before .before .before .before .before .before .before .before .before .before .before .before .before .before .count-part3 in
     let at-count-part4 = c .before .before .before .before .before .before .before .before .count-part4 in
     let at-clear3 = c .before .before .clear3 in
-    counted (asked (start .args .scripts) (start .args .rounds) (start .args .text1 .now) (start .args .text2 .now) (start .args .text3 .now) (start .args .text4 .now) (start .args .share1) (start .args .share2) (start .args .share3) (start .args .share4)) (start .args .work .now) (start .args .results .now) (sym (at-fit .ensures) ∙ not-false _ (at-if1 .left)) (sym (at-shares-fit .ensures) ∙ not-false _ (at-if2 .left)) (at-count-part .ensures .0) (at-count-part2 .ensures .0) (at-count-part3 .ensures .0) (at-count-part4 .ensures .0) _ (at-count-part4 .ensures .1) (at-clear3 .ensures)
+    let q = asked (start .args .scripts) (start .args .rounds) (start .args .text1 .now) (start .args .text2 .now) (start .args .text3 .now) (start .args .text4 .now)
+    (start .args .share1) (start .args .share2) (start .args .share3) (start .args .share4) in
+    let w = start .args .work .now in
+    let b = start .args .results .now in
+    counted q w b (sym (at-fit .ensures) ∙ not-false _ (at-if1 .left)) (sym (at-shares-fit .ensures) ∙ not-false _ (at-if2 .left)) (at-count-part .ensures .0) (at-count-part2 .ensures .0) (at-count-part3 .ensures .0) (at-count-part4 .ensures .0) _ (at-count-part4 .ensures .1) (at-clear3 .ensures)
 
 pub count-spec : {M : Type 1} → statement M
 count-spec =

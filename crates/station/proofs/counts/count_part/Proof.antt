@@ -32,10 +32,10 @@ same-length c = search needs
 
 returns : tie.Need-returns
 returns c =
-    let start = c .before .before .before .before .before .before .before .before .before .before .before in
+    let start = c .before .before .before .before .before .before .before .before .before in
     let at-if1 = c .before .before .before .before .if1 in
     let at-clear = c .before .before .clear in
-    let s = start .args .s in let t = start .args .text .now in let r = start .args .results .now in let n = start .pre .2 in let h = start .pre .0 .0 in (put-back r (s .number) n h (at-clear .ensures ∙ (zeros-wide r (s .number) n h ∙ part-past s t (at-if1 .taken))), start .pre .1)
+    let r = start .args .results .now in let i = start .args .i in let n = start .pre .2 in let h = start .pre .0 .0 in (put-back r i n h (at-clear .ensures ∙ (zeros-wide r i n h ∙ part-past (start .args .j) i (start .args .share) (start .args .text .now) (at-if1 .taken))), start .pre .1)
 
 sub-count-script : tie.Need-sub-count-script
 sub-count-script c = search needs
@@ -48,9 +48,9 @@ part-count-script-end c = search needs
 
 count-script-requires : tie.Need-count-script-requires
 count-script-requires c κs =
-    let start = c .before .before .before .before .before .before .before .before .before in
+    let start = c .before .before .before .before .before .before .before in
     let at-if1 = c .before .before .if1 in
-    (start .pre .0 .1 (omega (arith, at-if1 .left)), start .pre .1, part-wide (start .args .results .now) (start .args .s .number) (start .pre .2) (start .pre .0 .0))
+    (start .pre .0 .1 (omega (arith, at-if1 .left)), start .pre .1, part-wide (start .args .results .now) (start .args .i) (start .pre .2) (start .pre .0 .0))
 
 same-length-2 : tie.Need-same-length-2
 same-length-2 c = search needs
@@ -60,10 +60,10 @@ same-length-3 c = search needs
 
 returns-2 : tie.Need-returns-2
 returns-2 c =
-    let start = c .before .before .before .before .before .before .before .before .before .before .before .before .before .before in
+    let start = c .before .before .before .before .before .before .before .before .before .before .before .before in
     let at-if1 = c .before .before .before .before .before .before .before .if1 in
     let at-count-script = c .before .before .before .before .count-script in
-    let s = start .args .s in let t = start .args .text .now in let r = start .args .results .now in (put-back r (s .number) (start .pre .2) (start .pre .0 .0) (at-count-script .ensures .0 ∙ part-there s t (omega (arith, at-if1 .left))), at-count-script .ensures .1)
+    let r = start .args .results .now in let i = start .args .i in (put-back r i (start .pre .2) (start .pre .0 .0) (at-count-script .ensures .0 ∙ part-there (start .args .j) i (start .args .share) (start .args .text .now) (omega (arith, at-if1 .left))), at-count-script .ensures .1)
 
 pub count-part-spec : {M : Type 1} → statement M
 count-part-spec =
