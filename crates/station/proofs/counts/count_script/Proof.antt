@@ -1,7 +1,6 @@
 -- `station::counts::count_script` meets its contract. Assumes nothing.
 use mathlib.Core.Path.{ap, _∙_}
 use borrow.Author.Needs.{needs}
-use Rattle.rules.specs.Areas.{resultBytes, scriptBytes}
 use Rattle.station.specs.Station.{runNumbers}
 use Rattle.station.proofs.Texts.{found-share, fits-as, share-fits}
 use Rattle.station.proofs.Parts.{rest-length, script-written}
