@@ -2,6 +2,7 @@
 -- rows for every sentence, and the common theorem.
 use mathlib.Core.List.{List, [], _∷_, _++_}
 use lib.Dec.{T}
+use lib.ListN.{replicate}
 use Rattle.rules.specs.Base.{all}
 use Rattle.rules.specs.Calls.{computing}
 use Rattle.rules.specs.Printed as Printed
@@ -223,6 +224,10 @@ rows =
     (0 ∷ 0 ∷ ((22 ∷ 12 ∷ 2 ∷ three 1 2 0) ++ ((0 ∷ 13 ∷ 4 ∷ three 3 2 0) ++ repeated 2 (zeros 0 0)))) ∷
     row (wide 2) (count 2 9 (wide 2 ∷ []) (2 ∷ 3 ∷ []))
     (0 ∷ 0 ∷ ((22 ∷ 10 ∷ 1 ∷ three 1 0 0) ++ ((0 ∷ 11 ∷ 3 ∷ three 2 0 0) ++ repeated 2 (zeros 0 0)))) ∷
+    -- "No step changes a field in another's share"
+    row (script ("new s S" ∷ "let a 1" ∷ "set s n a" ∷ "let b s.n" ∷ []))
+    (count 2 9 (script ("new s S" ∷ "let a 2" ∷ "set s n a" ∷ "let b s.n" ∷ []) ∷ []) (1 ∷ 1 ∷ []))
+    (0 ∷ 0 ∷ ((0 ∷ 14 ∷ 5 ∷ 1 ∷ 0 ∷ 1 ∷ 1 ∷ replicate 8 0) ++ ((0 ∷ 14 ∷ 5 ∷ 1 ∷ 0 ∷ 2 ∷ 2 ∷ replicate 8 0) ++ repeated 2 (zeros 0 0)))) ∷
     -- "with 19 at line 0, .. before any script is read, if there are no scripts, more than four, or shares that are 0 or sum above 256"
     row worked (count 0 9 [] (1 ∷ 1 ∷ 1 ∷ 1 ∷ [])) (19 ∷ 0 ∷ repeated 4 (zeros 0 0)) ∷
     row worked (count 5 9 (worked ∷ worked ∷ worked ∷ []) (1 ∷ 1 ∷ 1 ∷ 1 ∷ [])) (19 ∷ 0 ∷ repeated 4 (zeros 0 0)) ∷
