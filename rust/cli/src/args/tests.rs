@@ -82,8 +82,8 @@ fn not_understood() {
         ),
         (
             "man --json",
-            "--json goes with check, run, trial, bound, report, trace, known, draw, fmt, fix, \
-             explain, not with man",
+            "--json goes with check, run, trial, count, bound, report, trace, known, draw, fmt, fix, \
+             fill, explain, not with man",
         ),
         (
             "fmt --check --write a",
