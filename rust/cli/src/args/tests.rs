@@ -82,9 +82,14 @@ fn not_understood() {
         ),
         (
             "man --json",
-            "--json goes with check, run, trial, count, bound, report, trace, known, draw, fmt, fix, \
-             fill, explain, not with man",
+            "--json goes with check, run, trial, count, bound, report, trace, known, draw, fmt, \
+             fix, fill, explain, not with man",
         ),
+        (
+            "check --write a",
+            "--write goes with fmt, fix, fill, not with check",
+        ),
+        ("fill a b", "fill takes FILE, and 2 were given"),
         (
             "fmt --check --write a",
             "--check and --write do not go together",
