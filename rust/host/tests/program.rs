@@ -1,8 +1,9 @@
-//! The proved program of document 01 prints, to the byte, what the model says.
+//! The proved programs print, to the byte, what the model says: `script`, that of
+//! document 01, and `small`, that of W14.
 //!
-//! The program is target/bin/script; `rt check script` proves and makes it, or
-//! finds it unchanged. The environment variable STATION_SCRIPT names another file
-//! instead.
+//! They are target/bin/script and target/bin/small; `rt check` proves and makes them,
+//! or finds them unchanged. The environment variables STATION_SCRIPT and STATION_SMALL
+//! name other files instead.
 
 #[path = "support/cases.rs"]
 mod cases;
@@ -16,22 +17,25 @@ fn root() -> PathBuf {
     Path::new(env!("CARGO_MANIFEST_DIR")).join("../..")
 }
 
-/// The program, made once however many tests ask for it.
+/// A program by its name, or the file that a variable names.
+fn made(name: &str, variable: &str) -> PathBuf {
+    if let Some(named) = std::env::var_os(variable) {
+        return named.into();
+    }
+    let made = Command::new("rt")
+        .args(["check", name])
+        .current_dir(root())
+        .output()
+        .expect("rt starts");
+    let said = String::from_utf8_lossy(&made.stdout);
+    assert!(made.status.success(), "rt check {name}: {said}");
+    root().join("target/bin").join(name)
+}
+
+/// The program of document 01, made once however many tests ask for it.
 fn program() -> &'static Path {
     static PROGRAM: OnceLock<PathBuf> = OnceLock::new();
-    PROGRAM.get_or_init(|| {
-        if let Some(named) = std::env::var_os("STATION_SCRIPT") {
-            return named.into();
-        }
-        let made = Command::new("rt")
-            .args(["check", "script"])
-            .current_dir(root())
-            .output()
-            .expect("rt starts");
-        let said = String::from_utf8_lossy(&made.stdout);
-        assert!(made.status.success(), "rt check script: {said}");
-        root().join("target/bin/script")
-    })
+    PROGRAM.get_or_init(|| made("script", "STATION_SCRIPT"))
 }
 
 fn printed(program: &Path, text: &[u8]) -> Vec<u8> {
@@ -131,5 +135,17 @@ fn generated_texts() {
     for text in files.chain(generated) {
         let shown = text.escape_ascii();
         assert_eq!(printed(program, &text), model::printed(&text), "{shown}");
+    }
+}
+
+/// W14: the list of small scripts, whatever stands on standard input.
+#[test]
+fn small_scripts() {
+    let program = made("small", "STATION_SMALL");
+    let list = model::small();
+    assert_eq!(list.lines().count(), 39);
+    for input in [&b""[..], b"main\nend\n"] {
+        let shown = String::from_utf8(printed(&program, input)).expect("ASCII");
+        assert_eq!(shown, list);
     }
 }
