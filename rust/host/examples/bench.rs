@@ -1,4 +1,4 @@
-//! Times check, bound, run, lean and trial of the library beside those of
+//! Times check, bound, fill, run, lean and trial of the library beside those of
 //! `rust/model`, in one go, and prints a table. Each round times a batch of the one, then of the
 //! other; the best round counts. The answers are compared too.
 //!
@@ -8,12 +8,15 @@
 #[path = "../tests/support/workloads.rs"]
 mod workloads;
 
-use nuyardi::limits::{BOUNDS_BYTES, RESULTS_BYTES, WORK_BYTES};
+use nuyardi::limits::{BOUNDS_BYTES, PLACES_BYTES, RESULTS_BYTES, WORK_BYTES};
 use nuyardi::{calls, Returned};
 use std::hint::black_box;
 use std::time::Instant;
 
 const ROUNDS: u32 = 40;
+
+/// The line that fill is for; the other calls refuse it.
+const STAR: &[u8] = b"\nrequires\t*\n";
 
 /// A call that runs a text.
 type Ran<R> = fn(&[u8], &mut [u8], u32, &mut [u8]) -> R;
@@ -24,6 +27,15 @@ const RUNS: [(&str, Ran<Returned>, Ran<u32>); 3] = [
     ("lean", calls::lean, model::lean_call),
     ("trial", calls::trial, model::trial_call),
 ];
+
+/// A call that tells something of a text.
+type Told<R> = fn(&[u8], &mut [u8], &mut [u8]) -> R;
+
+/// The library's and the model's, and the bytes of the area.
+const BOUND: (&str, usize, Told<Returned>, Told<u32>) =
+    ("bound", BOUNDS_BYTES, calls::bound, model::bound_call);
+const FILL: (&str, usize, Told<Returned>, Told<u32>) =
+    ("fill", PLACES_BYTES, calls::fill, model::fill_call);
 
 /// The best time of a call of each side, in ns, timed in turn.
 fn duel(mut one: impl FnMut(), mut two: impl FnMut(), ms: f64) -> (f64, f64) {
@@ -57,7 +69,6 @@ fn main() {
     let part = words.next().unwrap_or_default();
     let mut work = (vec![0; WORK_BYTES], vec![0; WORK_BYTES]);
     let mut results = ([0; RESULTS_BYTES], [0; RESULTS_BYTES]);
-    let mut bounds = ([0; BOUNDS_BYTES], [0; BOUNDS_BYTES]);
     let (clear, _) = duel(|| black_box(&mut work.0[..]).fill(0), || (), ms / 10.0);
     println!("clearing {WORK_BYTES} bytes, a part of every call: {clear:.0} ns\n");
     println!("| Text | Bytes | Call | Answer | Steps | Library ns | ns a step | Model ns | Model / library |");
@@ -91,23 +102,20 @@ fn main() {
             );
         };
         row("check", answers.0, 0, library, model);
+        let starred = text.windows(STAR.len()).any(|part| part == STAR);
+        let (call, bytes, ours, theirs) = if starred { FILL } else { BOUND };
+        let mut area = (vec![0; bytes], vec![0; bytes]);
         let answers = (
-            calls::bound(text, &mut work.0, &mut bounds.0),
-            Returned::of(model::bound_call(text, &mut work.1, &mut bounds.1)),
+            ours(text, &mut work.0, &mut area.0),
+            Returned::of(theirs(text, &mut work.1, &mut area.1)),
         );
-        assert_eq!((answers.0, bounds.0), (answers.1, bounds.1), "{name}");
+        assert_eq!((answers.0, &area.0), (answers.1, &area.1), "{name}");
         let (library, model) = duel(
-            || sink(calls::bound(black_box(text), &mut work.0, &mut bounds.0)),
-            || {
-                sink(model::bound_call(
-                    black_box(text),
-                    &mut work.1,
-                    &mut bounds.1,
-                ))
-            },
+            || sink(ours(black_box(text), &mut work.0, &mut area.0)),
+            || sink(theirs(black_box(text), &mut work.1, &mut area.1)),
             ms,
         );
-        row("bound", answers.0, 0, library, model);
+        row(call, answers.0, 0, library, model);
         let Some(allowed) = workload.steps else {
             continue;
         };

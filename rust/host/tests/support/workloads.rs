@@ -295,7 +295,40 @@ pub fn all() -> Vec<Workload> {
     all.extend(runs);
     all.extend(checks);
     all.extend(reads);
+    all.extend(fills());
     all
+}
+
+/// A method with a `requires *`, whose class and whose parameter's have eight fields
+/// each: some lines that ask for nothing, then lines that write these fields of the
+/// parameter.
+fn starred(before: usize, written: std::ops::Range<usize>) -> Vec<u8> {
+    let mut all = lines("class S");
+    all.extend((0..CLASS_FIELDS).map(|at| format!("field int f{at}")));
+    all.extend(lines("method int m S w\nrequires *\nensures\nvar int a"));
+    let asserted = format!("assert{}", " ne 1 2".repeat(8));
+    all.extend(std::iter::repeat_n(asserted, before));
+    all.extend(written.map(|at| format!("set w f{at} a")));
+    all.extend(lines("end\nmain\nend"));
+    text(&all)
+}
+
+/// Texts to be filled in: the worked script, the last set of all, and none after many
+/// lines.
+fn fills() -> Vec<Workload> {
+    let worked = include_str!("../../../../examples/worked.txt");
+    let worked = worked.replace("requires\tacc\tthis\tn\n", "requires\t*\n");
+    let workload = |name, text| Workload {
+        name,
+        text,
+        steps: None,
+    };
+    vec![
+        workload("fill: the worked script", worked.into_bytes()),
+        workload("fill: the last of 2,517 sets", starred(0, 4..8)),
+        workload("fill: the last set after 100 lines", starred(100, 4..8)),
+        workload("fill: no set after 100 lines", starred(100, 3..8)),
+    ]
 }
 
 /// Texts that differ in one thing each, to see how cost grows with it.
