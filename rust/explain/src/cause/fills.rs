@@ -2,14 +2,18 @@
 //! those of the reader.
 
 use super::{cause, Cause};
-use crate::fix::{standing, with_set, without_stars, ONE_STEP, STAR};
+use crate::fix::{quickly_tried, standing, with_set, without_stars, ONE_STEP, STAR};
 use crate::script::{field_range, line, quoted};
 use crate::show::counted;
 use nuyardi::limits::{FILLED, TEXT_BYTES};
 use nuyardi::{Filled, Kind, Lack, NotFilled, Returned};
 
-/// Why the text is not filled in, where the model agrees.
+/// Why the text is not filled in, where the model agrees, and can say so soon.
 pub fn fill_cause(text: &[u8], none: NotFilled) -> Option<Cause> {
+    let tried = matches!(none, NotFilled::Read { lack, .. } if lack == Lack::Unfilled);
+    if tried && !quickly_tried(text) {
+        return None;
+    }
     let found = model::fill(text);
     if (found.number, found.line) != (none.number(), none.line()) {
         return None;

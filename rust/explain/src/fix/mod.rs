@@ -15,7 +15,7 @@ use crate::script::Script;
 use draft::{Candidate, Draft};
 use edit::{applied, changes, Change};
 
-pub use stars::{filled_instead, with_set, without_stars, STAR};
+pub use stars::{filled_instead, quickly_tried, with_set, without_stars, STAR};
 
 use model::number;
 use model::watch::{Purpose, Record};
