@@ -1,5 +1,5 @@
-//! Times check, bound, fill, run, lean and trial of the library beside those of
-//! `rust/model`, in one go, and prints a table. Each round times a batch of the one, then of the
+//! Times check, bound, fill, run, lean, trial and a count of four of the library beside
+//! those of `rust/model`, in one go, and prints a table. Each round times a batch of the one, then of the
 //! other; the best round counts. The answers are compared too.
 //!
 //! `cargo run --release --example bench [MS] [PART]`: about MS milliseconds for
@@ -8,7 +8,8 @@
 #[path = "../tests/support/workloads.rs"]
 mod workloads;
 
-use nuyardi::limits::{BOUNDS_BYTES, PLACES_BYTES, RESULTS_BYTES, WORK_BYTES};
+use nuyardi::limits::{BOUNDS_BYTES, COUNT_BYTES, OBJECTS, PLACES_BYTES, RESULTS_BYTES};
+use nuyardi::limits::{SCRIPTS, SCRIPT_BYTES, WORK_BYTES};
 use nuyardi::{calls, Returned};
 use std::hint::black_box;
 use std::time::Instant;
@@ -21,12 +22,42 @@ const STAR: &[u8] = b"\nrequires\t*\n";
 /// A call that runs a text.
 type Ran<R> = fn(&[u8], &mut [u8], u32, &mut [u8]) -> R;
 
-/// The library's and the model's.
-const RUNS: [(&str, Ran<Returned>, Ran<u32>); 3] = [
-    ("run", calls::run, model::run_call),
-    ("lean", calls::lean, model::lean_call),
-    ("trial", calls::trial, model::trial_call),
+/// The library's and the model's, and the bytes of the results.
+const RUNS: [(&str, usize, Ran<Returned>, Ran<u32>); 4] = [
+    ("run", RESULTS_BYTES, calls::run, model::run_call),
+    ("lean", RESULTS_BYTES, calls::lean, model::lean_call),
+    ("trial", RESULTS_BYTES, calls::trial, model::trial_call),
+    ("count", COUNT_BYTES, four, four_of_the_model),
 ];
+
+/// An equal share for each script of a count.
+const SHARES: [u32; SCRIPTS] = [(OBJECTS / SCRIPTS) as u32; SCRIPTS];
+
+/// A text four times in a count.
+fn four(text: &[u8], work: &mut [u8], rounds: u32, results: &mut [u8]) -> Returned {
+    let (scripts, texts) = (SCRIPTS as u32, [text; SCRIPTS]);
+    calls::count(scripts, rounds, texts, work, SHARES, results)
+}
+
+fn four_of_the_model(text: &[u8], work: &mut [u8], rounds: u32, results: &mut [u8]) -> u32 {
+    let (scripts, texts) = (SCRIPTS as u32, [text; SCRIPTS]);
+    model::count_call(scripts, rounds, texts, work, SHARES, results)
+}
+
+/// The steps taken, of all scripts together.
+fn steps_of(results: &[u8]) -> u32 {
+    let word = |four: &[u8]| {
+        let four = four.iter().take(4).rev();
+        four.fold(0, |all, &byte| all << 8 | u32::from(byte))
+    };
+    match results.len() {
+        COUNT_BYTES => {
+            let scripts = results.chunks(SCRIPT_BYTES);
+            scripts.map(|script| word(&script[4..])).sum()
+        }
+        _ => word(results),
+    }
+}
 
 /// A call that tells something of a text.
 type Told<R> = fn(&[u8], &mut [u8], &mut [u8]) -> R;
@@ -68,7 +99,6 @@ fn main() {
         .unwrap_or(100.0);
     let part = words.next().unwrap_or_default();
     let mut work = (vec![0; WORK_BYTES], vec![0; WORK_BYTES]);
-    let mut results = ([0; RESULTS_BYTES], [0; RESULTS_BYTES]);
     let (clear, _) = duel(|| black_box(&mut work.0[..]).fill(0), || (), ms / 10.0);
     println!("clearing {WORK_BYTES} bytes, a part of every call: {clear:.0} ns\n");
     println!("| Text | Bytes | Call | Answer | Steps | Library ns | ns a step | Model ns | Model / library |");
@@ -119,16 +149,15 @@ fn main() {
         let Some(allowed) = workload.steps else {
             continue;
         };
-        for (call, ours, theirs) in RUNS {
+        for (call, bytes, ours, theirs) in RUNS {
+            let mut results = (vec![0; bytes], vec![0; bytes]);
             let answers = (
                 ours(text, &mut work.0, allowed, &mut results.0),
                 Returned::of(theirs(text, &mut work.1, allowed, &mut results.1)),
             );
-            assert_eq!((answers.0, results.0), (answers.1, results.1), "{name}");
-            let steps = results.0[..4]
-                .iter()
-                .rev()
-                .fold(0, |all, &byte| all << 8 | u32::from(byte));
+            assert_eq!(answers.0, answers.1, "{name}");
+            assert_eq!(results.0, results.1, "{name}");
+            let steps = steps_of(&results.0);
             let (library, model) = duel(
                 || sink(ours(black_box(text), &mut work.0, allowed, &mut results.0)),
                 || {
