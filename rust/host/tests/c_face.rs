@@ -175,8 +175,11 @@ fn global_names() {
         .map(|name| format!("station_{name}"))
         .collect();
     assert_eq!(names, with_prefix);
-    let source = Path::new(env!("CARGO_MANIFEST_DIR")).join("../../crates/station/src/lib.rt");
-    let source = std::fs::read_to_string(source).expect("the source");
+    let sources = Path::new(env!("CARGO_MANIFEST_DIR")).join("../../crates/station/src");
+    let source: String = std::fs::read_dir(sources)
+        .expect("the sources")
+        .map(|entry| std::fs::read_to_string(entry.expect("a file").path()).expect("a source"))
+        .collect();
     let mut exported: Vec<&str> = source
         .lines()
         .filter_map(|line| line.split_once("pub extern \"C\" fn ")?.1.split_once('('))
