@@ -101,7 +101,7 @@ same-answered t items e k R i C m′ agree w H =
     let P : Program = program items in
     let trial : outcomeResult (run wholeHeap P (k - suc i) (suc i) m′) ≡ trialText t k =
     ap outcomeResult (run-same wholeHeap P (R .state (suc i)) m′ agree w (k - suc i) (suc i) H ∙ sym (run-from wholeHeap P R (suc i) (C .is-done)))
-    ∙ ap (λ (v : Verdict (List Item)). runItems v k) (sym e) in
+    ∙ ap (λ (v : Verdict (List Item)). runItems wholeHeap v k) (sym e) in
     (trial, λ c. trial ∙ sym (same-from-both t c k))
 
 -- TWO CATALOGUES
