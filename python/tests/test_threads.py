@@ -13,7 +13,7 @@ from nuyardi.numbers import RESULTS_BYTES, WORK_BYTES
 from . import example
 
 FOREVER = example("forever.script")
-SCRIPTS = ["worked.txt", "sum.script", "refused-12.script", "stopped-27.script", "chain.script"]
+SCRIPTS = ["worked.txt", "sum.script", "refused-12.script", "stopped-27.script", "chain.script", "fill.script"]
 
 
 def steps_for(seconds: float) -> int:
@@ -65,15 +65,16 @@ class Threads(unittest.TestCase):
 
     def test_answers_do_not_mix(self):
         texts = [example(name) for name in SCRIPTS]
-        alone = [(nuyardi.check(text), nuyardi.trial(text, 500), nuyardi.bound(text), nuyardi.lean(text, 500)) for text in texts]
+
+        def answers(text):
+            runs = [nuyardi.trial(text, 500), nuyardi.lean(text, 500)]
+            return [nuyardi.check(text), *runs, nuyardi.bound(text), nuyardi.fill(text)]
+
+        alone = [answers(text) for text in texts]
         self.assertEqual(alone[0][1].number, Number.DONE)
-
-        def answers(at):
-            text = texts[at % len(texts)]
-            return nuyardi.check(text), nuyardi.trial(text, 500), nuyardi.bound(text), nuyardi.lean(text, 500)
-
+        self.assertTrue(alone[-1][-1].filled)
         with ThreadPoolExecutor(8) as pool:
-            for at, found in enumerate(pool.map(answers, range(400))):
+            for at, found in enumerate(pool.map(answers, texts * 80)):
                 self.assertEqual(found, alone[at % len(texts)])
 
 
