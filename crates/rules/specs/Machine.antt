@@ -480,5 +480,9 @@ runProgram room P k = run room P k 0 (start P)
 
 -- Everything above computes where this unfolds.
 unfoldable pub opened : Unit {0}
-unfolding eqLocation halves lessOne without valueIn object valueAt storeIn store fieldsIn valueOf locate value compared walk takeWalk takeHalves takeShare takeFrom footprint jump advance bind holding withFrame depthAfter closes seek closing openAfter openAt loopOf choose ifStep elseStep loopStep againStep stored setStep assignStep raised inRange computed computeStep newCell wholeOf grown newStep entryValues callFrame entered callStep targetOf statementOf returned assertStep releaseStep openStep shutStep took endStep returnStep mainFrame ends goOn simpleStep stepAt step run start runProgram
+unfolding eqLocation halves lessOne without valueIn object valueAt storeIn store fieldsIn valueOf locate value compared walk takeWalk
+    takeHalves takeShare takeFrom footprint jump advance bind holding withFrame depthAfter closes seek closing openAfter openAt loopOf
+    choose ifStep elseStep loopStep againStep stored setStep assignStep raised inRange computed computeStep newCell wholeOf grown
+    newStep entryValues callFrame entered callStep targetOf statementOf returned assertStep releaseStep openStep shutStep took endStep
+    returnStep mainFrame ends goOn simpleStep stepAt step run start runProgram
 opened = tt

@@ -362,5 +362,9 @@ add (cmp n a b ∷ φ) s = do
 
 -- Everything above computes where this unfolds.
 unfoldable pub opened : Unit {0}
-unfolding pathOf linkedBy representative equalBy equalIn exceed numbers termsOf isNe entryOf names resolve links listedUnequal differentNumbers nullAndObject differ twoEntries holdsIn split leaves withPermit giving shownBy takeOwn showFrom show paths insert rising inOrder isLeft successor givesWay becomes renameFact trivial renameFacts lists withoutPaths factsWithout dropPaths unlisted remainder renameVariable renameTerm renamePermission renamePermissions standIn removedTerm removeTo remove addPermission addFact joining joins addRead addOwn add
+unfolding pathOf linkedBy representative equalBy equalIn exceed numbers termsOf isNe entryOf names resolve links listedUnequal
+    differentNumbers nullAndObject differ twoEntries holdsIn split leaves withPermit giving shownBy takeOwn showFrom show paths insert
+    rising inOrder isLeft successor givesWay becomes renameFact trivial renameFacts lists withoutPaths factsWithout dropPaths unlisted
+    remainder renameVariable renameTerm renamePermission renamePermissions standIn removedTerm removeTo remove addPermission addFact
+    joining joins addRead addOwn add
 opened = tt
