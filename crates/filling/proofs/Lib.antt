@@ -1,7 +1,6 @@
 pub mod Listed
 pub mod Words
 pub mod Joined
-pub mod Taken
 pub mod Star
 pub mod Classes
 pub mod Fields

@@ -17,13 +17,12 @@ use Rattle.rules.specs.Items.{Item, aRequires, resolveLine, resolveLines}
 use Rattle.rules.specs.Reading.{readLines, framedItem, checkFramed, program}
 use Rattle.rules.specs.Reading as Reading
 use Rattle.rules.specs.Fill.{Access, accessesFor, accessesAt, scopeFrom, requiresLine, atomWords, withAtoms}
-use Rattle.rules.proofs.LinesTaken.{TakenText}
+use Rattle.rules.proofs.LinesTaken.{TakenText, line-placed, lines-taken}
 use Rattle.rules.proofs.Tries.{ok-inj}
 use Rattle.filling.specs.Sets.{isHeader, methodOfLine, accessesOfLine, programWith}
 use Rattle.filling.specs.Claims.{OneStar}
 use Rattle.filling.proofs.Listed.{All, take-part}
 use Rattle.filling.proofs.Words.{Named, requiresOf, line-read}
-use Rattle.filling.proofs.Taken.{line-stands, lines-taken}
 use Rattle.filling.proofs.Star.{Parts, one-star, Scanned, scan-parts, Resolved, resolve-parts, same-declarations, same-scope}
 use Rattle.filling.proofs.Programs.{framed-with}
 use Rattle.filling.proofs.Resolved.{Good, atomOf, named-all, line-resolved}
@@ -47,7 +46,7 @@ pub record StarRead (ls : List Name) (ks : List Line) (items : List Item) (l : �
 -- the line with no atom
 star-line : (p : Place) (a : Placed) → scanLine p (requiresLine (atomWords [])) ≡ ok a → a .line ≡ requiresOf []
 star-line p a e =
-    ok-inj (sym (line-stands p (requiresLine (atomWords [])) a e .read) ∙ line-read [] (omega arith) tt)
+    ok-inj (sym (line-placed p (requiresLine (atomWords [])) a e .read) ∙ line-read [] (omega arith) tt)
 
 -- a line in the place of the star leads to the same place
 line-scanned :
@@ -57,7 +56,7 @@ line-scanned :
 unfolding scanLine _>>=_
 line-scanned p a αs r e =
     let q : placeLine p Requires ≡ ok (a .next) =
-    subst (λ (l : Line). placeLine p (l .kind) ≡ ok (a .next)) (star-line p a e) (line-stands p (requiresLine (atomWords [])) a e .placed) in
+    subst (λ (l : Line). placeLine p (l .kind) ≡ ok (a .next)) (star-line p a e) (line-placed p (requiresLine (atomWords [])) a e .placed) in
     rw (r, q)
 
 no-framed : framedItem (aRequires []) ≡ true

@@ -3,6 +3,7 @@ use lean_heap::Counters;
 use lean_heap::Stop;
 use lean_heap::Turn;
 use rules::Kind;
+use rules::Number;
 use run_heap::Stores;
 use tables::Layout;
 ghost use mathlib.Core.Path.{_≡_};
@@ -39,9 +40,9 @@ fn stop_number(s: Stop) -> u32
     ensures { λ r. ⌜ r ≡ stopNumber (stopOf s) ⌝ }
 {
     match s {
-        Stop::HeapFull => machine::Ending::HEAP_FULL,
-        Stop::FramesFull => machine::Ending::FRAMES_FULL,
-        Stop::Overflow => machine::Ending::OVERFLOW,
+        Stop::HeapFull => Number::HEAP_FULL,
+        Stop::FramesFull => Number::FRAMES_FULL,
+        Stop::Overflow => Number::OVERFLOW,
     }
 }
 
@@ -51,7 +52,7 @@ pub fn number_of(e: Ending) -> u32
 {
     match e {
         Ending::Finished => 0,
-        Ending::StepsTaken => machine::Ending::STEPS_TAKEN,
+        Ending::StepsTaken => Number::STEPS_TAKEN,
         Ending::Stopped(s) => stop_number(s),
     }
 }

@@ -1,6 +1,7 @@
 // One step by the kind of its row, and a run: at most so many steps from the empty heap and main's frame.
 use rules::Kind;
 use rules::Machine;
+use rules::Number;
 use run_heap::Fault;
 use run_heap::Stores;
 use run_steps::Turn;
@@ -28,23 +29,6 @@ pub enum Ending {
     Stopped(Fault),
 }
 
-// The numbers of document 01 for it; main's `end` done is 0.
-impl Ending {
-    pub const STEPS_TAKEN: u32 = 21;
-
-    pub const HEAP_FULL: u32 = 22;
-
-    pub const FRAMES_FULL: u32 = 23;
-
-    pub const PERMISSION_MISSING: u32 = 24;
-
-    pub const NULL_FOLLOWED: u32 = 25;
-
-    pub const FORMULA_FALSE: u32 = 26;
-
-    pub const OVERFLOW: u32 = 27;
-}
-
 // What a run ends with; main's values are in its frame, from byte FRAMES + 8 of the work area on.
 pub struct Ran {
     pub ending: Ending,
@@ -57,12 +41,12 @@ fn fault_number(f: Fault) -> u32
     ensures { λ r. ⌜ r ≡ faultNumber f ⌝ }
 {
     match f {
-        Fault::HeapFull => Ending::HEAP_FULL,
-        Fault::FramesFull => Ending::FRAMES_FULL,
-        Fault::Permission => Ending::PERMISSION_MISSING,
-        Fault::Null => Ending::NULL_FOLLOWED,
-        Fault::False => Ending::FORMULA_FALSE,
-        Fault::Overflow => Ending::OVERFLOW,
+        Fault::HeapFull => Number::HEAP_FULL,
+        Fault::FramesFull => Number::FRAMES_FULL,
+        Fault::Permission => Number::PERMISSION_MISSING,
+        Fault::Null => Number::NULL_FOLLOWED,
+        Fault::False => Number::FORMULA_FALSE,
+        Fault::Overflow => Number::OVERFLOW,
     }
 }
 
@@ -72,7 +56,7 @@ pub fn number_of(e: Ending) -> u32
 {
     match e {
         Ending::Finished => 0,
-        Ending::StepsTaken => Ending::STEPS_TAKEN,
+        Ending::StepsTaken => Number::STEPS_TAKEN,
         Ending::Stopped(f) => fault_number(f),
     }
 }

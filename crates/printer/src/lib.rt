@@ -1,9 +1,7 @@
 // What the program prints, written to a lent buffer.
-mod numbers;
-
-pub use numbers::Number;
 use read_bytes::Set;
 use rules::Kind;
+use rules::Number;
 use tables::Bytes;
 ghost use mathlib.Core.Path.{_≡_};
 ghost use mathlib.Core.Bool.{true};

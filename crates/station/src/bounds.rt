@@ -1,7 +1,7 @@
 // Main's bound and the most frames, written for `bound`; zeros where there are none.
 use crate::Reply;
-use printer::Number;
 use reckoner::Outcome;
+use rules::Number;
 use tables::Bytes;
 ghost use mathlib.Core.Path.{_≡_};
 ghost use mathlib.Core.List.{[], _∷_};

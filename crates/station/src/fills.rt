@@ -1,7 +1,7 @@
 // The set that fills in a requires line, for `fill`; zeros where the text is refused.
 use crate::Reply;
 use crate::reading_number;
-use printer::Number;
+use rules::Number;
 use star_reader::Star;
 use star_reader::Starred;
 ghost use mathlib.Core.Path.{_≡_};

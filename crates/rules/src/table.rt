@@ -6,6 +6,7 @@ impl Number {
     // A call returns number × FACTOR + line.
     pub const FACTOR: u32 = 65536;
 
+    // Why a text gets no other answer.
     pub const WRONG_LENGTH: u32 = 1;
 
     pub const TEXT_TOO_LONG: u32 = 2;
@@ -43,4 +44,19 @@ impl Number {
     pub const NOT_ONE_STAR: u32 = 18;
 
     pub const WRONG_SHARES: u32 = 19;
+
+    // How a run ends.
+    pub const STEPS_TAKEN: u32 = 21;
+
+    pub const HEAP_FULL: u32 = 22;
+
+    pub const FRAMES_FULL: u32 = 23;
+
+    pub const PERMISSION_MISSING: u32 = 24;
+
+    pub const NULL_FOLLOWED: u32 = 25;
+
+    pub const FORMULA_FALSE: u32 = 26;
+
+    pub const OVERFLOW: u32 = 27;
 }
