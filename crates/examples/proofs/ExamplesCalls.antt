@@ -46,6 +46,10 @@ callRows =
     row (filling ("assert eq 1 2" ∷ [])) (fillIn 65536 4) (1114118 ∷ 65536 ∷ 0 ∷ 0 ∷ 0 ∷ 0 ∷ 0 ∷ []) ∷
     row (filling []) (fillIn 65536 5) (65536 ∷ 65536 ∷ 458752 ∷ lent 5) ∷
     row (filling []) (fillIn 65535 4) (65536 ∷ 65535 ∷ 458745 ∷ lent 4) ∷
+    -- "the first set of at most 4 `acc` atoms, over the fields of `this` and then of w"
+    row (filling ("set w k a" ∷ "set w n a" ∷ "set this k a" ∷ "set this n a" ∷ [])) fill (0 ∷ 0 ∷ 2 ∷ 3 ∷ 5 ∷ 6 ∷ []) ∷
+    row (filling ("set w k a" ∷ "set w n a" ∷ "set this k a" ∷ "set this n a" ∷ "set w p this" ∷ [])) fill
+    (17 ∷ 6 ∷ 0 ∷ 0 ∷ 0 ∷ 0 ∷ []) ∷
     -- "one method may have the star"; an int w has no fields
     row (withLine 5 "method int m int w" (filling ("set this k a" ∷ []))) fill (0 ∷ 0 ∷ 3 ∷ 0 ∷ 0 ∷ 0 ∷ []) ∷
     row (withLine 5 "method int m int w" (filling ("set w k a" ∷ []))) fill (7 ∷ 9 ∷ 0 ∷ 0 ∷ 0 ∷ 0 ∷ []) ∷

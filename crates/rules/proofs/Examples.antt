@@ -196,9 +196,6 @@ rows =
     -- W11: "the first set of at most 4 `acc` atoms, over the fields of `this` and then of w, with which the whole text, its length apart, is
     -- accepted"
     row (withLine 5 "requires *" worked) fill (0 ∷ 0 ∷ 2 ∷ 0 ∷ 0 ∷ 0 ∷ []) ∷
-    row (filling ("set w k a" ∷ "set w n a" ∷ "set this k a" ∷ "set this n a" ∷ [])) fill (0 ∷ 0 ∷ 2 ∷ 3 ∷ 5 ∷ 6 ∷ []) ∷
-    row (filling ("set w k a" ∷ "set w n a" ∷ "set this k a" ∷ "set this n a" ∷ "set w p this" ∷ [])) fill
-    (17 ∷ 6 ∷ 0 ∷ 0 ∷ 0 ∷ 0 ∷ []) ∷
     -- "Fewer atoms come first, then the earlier place where two sets first differ"
     row (filling ("assert" ∷ [])) fill (0 ∷ 0 ∷ 0 ∷ 0 ∷ 0 ∷ 0 ∷ []) ∷
     row (filling ("assert ne this w" ∷ [])) fill (0 ∷ 0 ∷ 1 ∷ 4 ∷ 0 ∷ 0 ∷ []) ∷
