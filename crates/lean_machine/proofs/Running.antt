@@ -9,7 +9,7 @@ use lib.ListN.{length}
 use Rattle.rules.specs.Limits.{most-statements, values-shown}
 use Rattle.rules.specs.Answers as Answers
 use Rattle.rules.specs.Syntax.{Program}
-use Rattle.rules.specs.Grammar.{IsStatementNumber}
+use Rattle.rules.specs.Grammar.{IsStatementNumber, statementNumber}
 use Rattle.rules.specs.Lean as Lean
 use Rattle.rules.specs.Machine.{Config, Outcome, Step, on, stop, done, step, run, goOn, ends, start, runProgram}
 use Rattle.rules.specs.Calls.{wholeHeap}
@@ -216,3 +216,15 @@ module _ {w₀ w : List ℕ} {k : ℕ} {c : Counters} (G : Going w₀ w k c) whe
 -- every row is a statement's
 pub has-kind : {w : List ℕ} {c : Counters} → CanStep w c → IsStatementNumber (kindAt w (c .row))
 has-kind R = let S = R .stands in subst IsStatementNumber (kind-is S refl) (fits S .kind)
+
+up : (a k : ℕ) → a ≤ k → (k ≡ a → ⊥) → a + 1 ≤ k
+up a k l n = omega arith
+
+-- the kinds of statement go from 8 to 24
+pub no-other :
+    (k : ℕ) → IsStatementNumber k → (k ≡ 8 → ⊥) → (k ≡ 9 → ⊥) → (k ≡ 10 → ⊥) → (k ≡ 11 → ⊥) → (k ≡ 12 → ⊥) → (k ≡ 13 → ⊥) → (k ≡ 14 → ⊥) → (k ≡ 15 → ⊥) →
+    (k ≡ 16 → ⊥) → (k ≡ 17 → ⊥) → (k ≡ 18 → ⊥) → (k ≡ 19 → ⊥) → (k ≡ 20 → ⊥) → (k ≡ 21 → ⊥) → (k ≡ 22 → ⊥) → (k ≡ 23 → ⊥) → (k ≡ 24 → ⊥) → ⊥
+unfolding statementNumber
+no-other k (low, high) n8 n9 n10 n11 n12 n13 n14 n15 n16 n17 n18 n19 n20 n21 n22 n23 n24 =
+    let below : 17 ≤ k = up 16 k (up 15 k (up 14 k (up 13 k (up 12 k (up 11 k (up 10 k (up 9 k (up 8 k low n8) n9) n10) n11) n12) n13) n14) n15) n16 in
+    omega (arith, high, up 24 k (up 23 k (up 22 k (up 21 k (up 20 k (up 19 k (up 18 k (up 17 k below n17) n18) n19) n20) n21) n22) n23) n24)

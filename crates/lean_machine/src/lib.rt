@@ -69,13 +69,14 @@ fn step(work: &mut [u8], c: Counters) -> Turn
         Kind::NEW => lean_calls::new_step(work, c),
         Kind::CALL => lean_calls::call_step(work, c),
         Kind::RETURN | Kind::END => lean_calls::back_step(work, c),
-        Kind::ASSERT | Kind::JOIN => lean_steps::pass_step(work, c),
-        Kind::RELEASE => lean_steps::pass_step(work, c),
+        Kind::ADD => lean_steps::compute_step(work, c, Kind::ADD),
+        Kind::SUB => lean_steps::compute_step(work, c, Kind::SUB),
         Kind::IF | Kind::LOOP => lean_steps::choose_step(work, c),
         Kind::ELSE | Kind::AGAIN => lean_steps::jump_step(work, c),
+        Kind::ASSERT | Kind::JOIN => lean_steps::pass_step(work, c),
+        Kind::RELEASE => lean_steps::pass_step(work, c),
         Kind::OPEN => lean_steps::open_step(work, c),
         Kind::SHUT => lean_steps::pass_step(work, c),
-        Kind::ADD | Kind::SUB => lean_steps::compute_step(work, c),
         // No row is of another kind, so that any answer meets the contract.
         0..=Kind::VAR | UNKNOWN..=u8::MAX => Turn::Done,
     }

@@ -103,16 +103,16 @@ pub fn open_step(work: &mut [u8], c: Counters) -> Turn
     Turn::On(lean_heap::next(c, c.row + 1))
 }
 
-// `add` and `sub`.
-pub fn compute_step(work: &mut [u8], c: Counters) -> Turn
-    requires { ⌜ CanStep (now work) c × T (isComputing (kindAt (now work) (c .row))) ⌝ }
+// `add` and `sub`, by the kind of the row. The caller names the kind, so that the compiler makes one step for each.
+pub fn compute_step(work: &mut [u8], c: Counters, kind: u8) -> Turn
+    requires { ⌜ CanStep (now work) c × ((kind ≡ kindAt (now work) (c .row)) × T (isComputing kind)) ⌝ }
     ensures { λ r. ⌜ Does (now (work .entry)) c (now (work .exit)) r ⌝ }
 {
     let row = c.row as usize;
     let b = lean_heap::base_of(c);
     let y = run_heap::variable(work, b, tables::y_at(work, row));
     let z = run_heap::variable(work, b, tables::z_at(work, row));
-    match run_numbers::compute(tables::kind_at(work, row), y, z) {
+    match run_numbers::compute(kind, y, z) {
         Computed::Value(n) => {
             let x = tables::x_at(work, row);
             tables::put_word(work, b + x * Stores::WORD_BYTES, n);

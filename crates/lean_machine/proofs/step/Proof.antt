@@ -1,9 +1,7 @@
-use native.Mathlib.Omega.{arith}
 use mathlib.Core.Path.{sym, _∙_}
 use mathlib.Core.Logic.{inl, inr, ⊎-elim}
-use Rattle.rules.specs.Grammar.{statementNumber}
-use Rattle.machine.proofs.Stepping as Stepping
-use Rattle.lean_machine.proofs.Running.{has-kind}
+use Rattle.rules.specs.Grammar.{statementNumber, isComputing}
+use Rattle.lean_machine.proofs.Running.{has-kind, no-other}
 use borrow.Author.Needs.{needs}
 use Rattle.lean_machine.proofs.step.Statement.{statement}
 use Rattle.lean_machine.proofs.step.Tie as tie
@@ -34,42 +32,40 @@ back-step-requires : tie.Need-back-step-requires
 unfolding statementNumber
 back-step-requires c κs = (c .before .before .before .before .before .before .pre, ⊎-elim (λ e. inl (sym (c .before .before .kind-at .ensures) ∙ e)) (λ e. inr (sym (c .before .before .kind-at .ensures) ∙ e)) (c .before .match .keys5))
 
-pass-step-requires : tie.Need-pass-step-requires
-unfolding statementNumber
-pass-step-requires c κs =
-    (c .before .before .before .before .before .before .pre, inl (⊎-elim (λ e. inl (sym (c .before .before .kind-at .ensures) ∙ e)) (λ e. inr (sym (c .before .before .kind-at .ensures) ∙ e)) (c .before .match .keys6)))
+compute-step-requires : tie.Need-compute-step-requires
+unfolding isComputing statementNumber
+compute-step-requires c κs = (c .before .before .before .before .before .before .pre, (sym (c .before .match .keys6) ∙ c .before .before .kind-at .ensures, tt))
 
-pass-step-requires-2 : tie.Need-pass-step-requires-2
-unfolding statementNumber
-pass-step-requires-2 c κs = (c .before .before .before .before .before .before .pre, inr (inl (sym (c .before .before .kind-at .ensures) ∙ c .before .match .keys7)))
+compute-step-requires-2 : tie.Need-compute-step-requires-2
+unfolding isComputing statementNumber
+compute-step-requires-2 c κs = (c .before .before .before .before .before .before .pre, (sym (c .before .match .keys7) ∙ c .before .before .kind-at .ensures, tt))
 
 choose-step-requires : tie.Need-choose-step-requires
 unfolding statementNumber
-choose-step-requires c κs = (c .before .before .before .before .before .before .pre, ⊎-elim (λ e. inl (sym (c .before .before .kind-at .ensures) ∙ e)) (λ e. inr (sym (c .before .before .kind-at .ensures) ∙ e)) (c .before .match .keys8))
+choose-step-requires c κs =
+    (c .before .before .before .before .before .before .pre, ⊎-elim (λ e. inl (sym (c .before .before .kind-at .ensures) ∙ e)) (λ e. inr (sym (c .before .before .kind-at .ensures) ∙ e)) (c .before .match .keys8))
 
 jump-step-requires : tie.Need-jump-step-requires
 unfolding statementNumber
-jump-step-requires c κs = (c .before .before .before .before .before .before .pre, ⊎-elim (λ e. inl (sym (c .before .before .kind-at .ensures) ∙ e)) (λ e. inr (sym (c .before .before .kind-at .ensures) ∙ e)) (c .before .match .keys9))
+jump-step-requires c κs =
+    (c .before .before .before .before .before .before .pre, ⊎-elim (λ e. inl (sym (c .before .before .kind-at .ensures) ∙ e)) (λ e. inr (sym (c .before .before .kind-at .ensures) ∙ e)) (c .before .match .keys9))
+
+pass-step-requires : tie.Need-pass-step-requires
+unfolding statementNumber
+pass-step-requires c κs =
+    (c .before .before .before .before .before .before .pre, inl (⊎-elim (λ e. inl (sym (c .before .before .kind-at .ensures) ∙ e)) (λ e. inr (sym (c .before .before .kind-at .ensures) ∙ e)) (c .before .match .keys10)))
+
+pass-step-requires-2 : tie.Need-pass-step-requires-2
+unfolding statementNumber
+pass-step-requires-2 c κs = (c .before .before .before .before .before .before .pre, inr (inl (sym (c .before .before .kind-at .ensures) ∙ c .before .match .keys11)))
 
 open-step-requires : tie.Need-open-step-requires
 unfolding statementNumber
-open-step-requires c κs = (c .before .before .before .before .before .before .pre, sym (c .before .before .kind-at .ensures) ∙ c .before .match .keys10)
+open-step-requires c κs = (c .before .before .before .before .before .before .pre, sym (c .before .before .kind-at .ensures) ∙ c .before .match .keys12)
 
 pass-step-requires-3 : tie.Need-pass-step-requires-3
 unfolding statementNumber
-pass-step-requires-3 c κs = (c .before .before .before .before .before .before .pre, inr (inr (sym (c .before .before .kind-at .ensures) ∙ c .before .match .keys11)))
-
-compute-step-requires : tie.Need-compute-step-requires
-compute-step-requires c κs =
-    let is = c .before .before .before .before .kind-at .ensures in
-    let other = c .before .before .before .match .rest in
-    let t =
-    Stepping.is-computing _ (has-kind (c .before .before .before .before .before .before .before .before .pre)) (λ z. other .0 .0 .0 .0 .0 .0 .0 .0 .0 .0 .1 (is ∙ z)) (λ z. other .0 .0 .0 .0 .0 .0 .0 .0 .0 .1 (is ∙ z))
-    (λ z. other .0 .0 .0 .0 .0 .0 .0 .0 .1 (is ∙ z)) (λ z. other .0 .0 .0 .0 .0 .0 .0 .1 (is ∙ z)) (λ z. other .0 .0 .0 .0 .0 .0 .1 (inl (is ∙ z)))
-    (λ o. other .0 .0 .0 .0 .0 .1 (⊎-elim (λ z. inl (is ∙ z)) (λ z. inr (is ∙ z)) o)) (λ z. other .0 .0 .0 .0 .1 (is ∙ z))
-    (λ z. other .0 .0 .0 .1 (inl (is ∙ z))) (λ z. other .0 .0 .0 .1 (inr (is ∙ z)))
-    (λ o. other .0 .0 .1 (⊎-elim (λ z. inl (is ∙ z)) (λ z. inr (is ∙ z)) o)) (λ z. other .0 .1 (is ∙ z)) (λ z. other .1 (is ∙ z)) (λ z. other .0 .0 .0 .0 .0 .0 .1 (inr (is ∙ z))) in
-    (c .before .before .before .before .before .before .before .before .pre, t)
+pass-step-requires-3 c κs = (c .before .before .before .before .before .before .pre, inr (inr (sym (c .before .before .kind-at .ensures) ∙ c .before .match .keys13)))
 
 same-length : tie.Need-same-length
 same-length c = search needs
@@ -147,18 +143,22 @@ same-length-13 : tie.Need-same-length-13
 same-length-13 c = search needs
 
 returns-13 : tie.Need-returns-13
-returns-13 c = absurd (omega (arith, c .before .before .kind-at .ensures, c .if1 .taken, has-kind (c .before .before .before .before .before .before .pre) .0))
+returns-13 c = search needs
 
 same-length-14 : tie.Need-same-length-14
 same-length-14 c = search needs
 
 returns-14 : tie.Need-returns-14
 returns-14 c =
-    let is = c .before .before .before .kind-at .ensures in
-    let other = c .before .before .match .rest in
+    let is = c .before .kind-at .ensures in
+    let other = c .match .rest in
     absurd
-    (Stepping.past-all _ (has-kind (c .before .before .before .before .before .before .before .pre)) (omega (arith, is, c .if2 .left))
-    (λ z. other .0 .0 .0 .1 (inr (is ∙ z))) (λ o. other .0 .0 .1 (⊎-elim (λ z. inl (is ∙ z)) (λ z. inr (is ∙ z)) o)) (λ z. other .0 .1 (is ∙ z)) (λ z. other .1 (is ∙ z)))
+    (no-other _ (has-kind (c .before .before .before .before .before .pre))
+    (λ z. other .0 .0 .0 .0 .0 .0 .0 .0 .0 .0 .0 .0 .1 (is ∙ z)) (λ z. other .0 .0 .0 .0 .0 .0 .0 .0 .0 .0 .0 .1 (is ∙ z)) (λ z. other .0 .0 .0 .0 .0 .0 .0 .0 .0 .0 .1 (is ∙ z)) (λ z. other .0 .0 .0 .0 .0 .0 .0 .0 .0 .1 (is ∙ z))
+    (λ z. other .0 .0 .0 .0 .0 .0 .0 .0 .1 (inl (is ∙ z))) (λ z. other .0 .0 .0 .1 (inl (is ∙ z))) (λ z. other .0 .0 .1 (is ∙ z)) (λ z. other .0 .0 .0 .0 .0 .1 (inl (is ∙ z)))
+    (λ z. other .0 .0 .0 .0 .1 (inl (is ∙ z))) (λ z. other .0 .0 .0 .1 (inr (is ∙ z))) (λ z. other .0 .0 .0 .0 .0 .0 .0 .0 .1 (inr (is ∙ z))) (λ z. other .0 .0 .0 .0 .0 .0 .0 .1 (is ∙ z))
+    (λ z. other .0 .0 .0 .0 .0 .0 .1 (is ∙ z)) (λ z. other .0 .0 .0 .0 .0 .1 (inr (is ∙ z))) (λ z. other .0 .0 .0 .0 .1 (inr (is ∙ z))) (λ z. other .0 .1 (is ∙ z))
+    (λ z. other .1 (is ∙ z)))
 
 pub step-spec : {M : Type 1} → statement M
 step-spec =
@@ -171,13 +171,14 @@ step-spec =
     new-step-requires
     call-step-requires
     back-step-requires
-    pass-step-requires
-    pass-step-requires-2
+    compute-step-requires
+    compute-step-requires-2
     choose-step-requires
     jump-step-requires
+    pass-step-requires
+    pass-step-requires-2
     open-step-requires
     pass-step-requires-3
-    compute-step-requires
     same-length
     returns
     same-length-2

@@ -1,4 +1,7 @@
-use Prim.Native.Nat.{_<_}
+use mathlib.Core.Path.{_≡_, subst}
+use Prim.Native.Nat.{ℕ, _<_}
+use lib.Dec.{T}
+use Rattle.rules.specs.Grammar.{isComputing}
 use Rattle.run_numbers.proofs.Computing.{has-value, has-none}
 use native.Mathlib.Omega.{arith}
 use Rattle.lean_heap.proofs.Following.{has-row, has-base, y-small, z-small}
@@ -6,6 +9,10 @@ use Rattle.lean_steps.proofs.Doing.{compute-does, compute-stops}
 use borrow.Author.Needs.{needs}
 use Rattle.lean_steps.proofs.compute_step.Statement.{statement}
 use Rattle.lean_steps.proofs.compute_step.Tie as tie
+
+-- the row computes
+computing-at : {k i : ℕ} → (k ≡ i) × T (isComputing k) → T (isComputing i)
+computing-at (e, t) = subst (λ k. T (isComputing k)) e t
 
 cast-row : tie.Need-cast-row
 cast-row c = search needs
@@ -31,9 +38,6 @@ variable-requires-2 c κs =
     let at-base-of = c .before .before .before .before .before .base-of in
     (has-base (start .pre .0) (at-base-of .ensures .0), z-small (start .pre .0) (c .z-at .ensures .0))
 
-kind-at-requires : tie.Need-kind-at-requires
-kind-at-requires c κs = search needs
-
 compute-requires : tie.Need-compute-requires
 compute-requires c κs = search needs
 
@@ -54,7 +58,7 @@ put-word-requires c κs = search needs
 
 add-next : tie.Need-add-next
 add-next c =
-    let start = c .before .before .before .before .before .before .before .before .before .before .before .before .before .before .before .before .before .before .before .before .before .before in
+    let start = c .before .before .before .before .before .before .before .before .before .before .before .before .before .before .before .before .before .before .before .before in
     omega (arith, has-row (start .pre .0))
 
 next-requires : tie.Need-next-requires
@@ -69,18 +73,17 @@ same-length c = search needs
 returns : tie.Need-returns
 returns c =
     let n-fits : c .before .before .before .before .before .before .before .before .before .n .given .0 .0 < 4294967296 = search needs in
-    let start = c .before .before .before .before .before .before .before .before .before .before .before .before .before .before .before .before .before .before .before .before .before .before .before in
-    let at-base-of = c .before .before .before .before .before .before .before .before .before .before .before .before .before .before .before .before .before .before .before .before .base-of in
-    let at-y-at = c .before .before .before .before .before .before .before .before .before .before .before .before .before .before .before .before .before .before .y-at in
-    let at-variable = c .before .before .before .before .before .before .before .before .before .before .before .before .before .before .before .before .before .variable in
-    let at-z-at = c .before .before .before .before .before .before .before .before .before .before .before .before .before .before .before .z-at in
-    let at-variable2 = c .before .before .before .before .before .before .before .before .before .before .before .before .before .before .variable2 in
-    let at-kind-at = c .before .before .before .before .before .before .before .before .before .before .before .before .kind-at in
+    let start = c .before .before .before .before .before .before .before .before .before .before .before .before .before .before .before .before .before .before .before .before .before in
+    let at-base-of = c .before .before .before .before .before .before .before .before .before .before .before .before .before .before .before .before .before .before .base-of in
+    let at-y-at = c .before .before .before .before .before .before .before .before .before .before .before .before .before .before .before .before .y-at in
+    let at-variable = c .before .before .before .before .before .before .before .before .before .before .before .before .before .before .before .variable in
+    let at-z-at = c .before .before .before .before .before .before .before .before .before .before .before .before .before .z-at in
+    let at-variable2 = c .before .before .before .before .before .before .before .before .before .before .before .before .variable2 in
     let at-compute = c .before .before .before .before .before .before .before .before .before .before .before .compute in
     let at-n = c .before .before .before .before .before .before .before .before .before .n in
     let at-x-at = c .before .before .before .before .before .before .x-at in
     let at-put-word = c .before .before .before .before .put-word in
-    compute-does (start .pre .0) (start .pre .1) _ _ _ _ _ _ (at-base-of .ensures .0) (at-y-at .ensures .0) (at-z-at .ensures .0) (at-kind-at .ensures) (at-variable .ensures) (at-variable2 .ensures)
+    compute-does (start .pre .0) (computing-at (start .pre .1)) _ _ _ _ _ _ (at-base-of .ensures .0) (at-y-at .ensures .0) (at-z-at .ensures .0) (start .pre .1 .0) (at-variable .ensures) (at-variable2 .ensures)
     _ _ (at-x-at .ensures .0) n-fits (has-value _ (at-compute .ensures) _ (at-n .given .1)) (at-put-word .ensures) (c .next .ensures)
 
 same-length-2 : tie.Need-same-length-2
@@ -88,15 +91,14 @@ same-length-2 c = search needs
 
 returns-2 : tie.Need-returns-2
 returns-2 c =
-    let start = c .before .before .before .before .before .before .before .before .before .before .before .before .before .before in
-    let at-base-of = c .before .before .before .before .before .before .before .before .before .before .before .base-of in
-    let at-y-at = c .before .before .before .before .before .before .before .before .before .y-at in
-    let at-variable = c .before .before .before .before .before .before .before .before .variable in
-    let at-z-at = c .before .before .before .before .before .before .z-at in
-    let at-variable2 = c .before .before .before .before .before .variable2 in
-    let at-kind-at = c .before .before .before .kind-at in
+    let start = c .before .before .before .before .before .before .before .before .before .before .before .before in
+    let at-base-of = c .before .before .before .before .before .before .before .before .before .base-of in
+    let at-y-at = c .before .before .before .before .before .before .before .y-at in
+    let at-variable = c .before .before .before .before .before .before .variable in
+    let at-z-at = c .before .before .before .before .z-at in
+    let at-variable2 = c .before .before .before .variable2 in
     let at-compute = c .before .before .compute in
-    compute-stops (start .pre .0) (start .pre .1) _ _ _ _ _ _ (at-base-of .ensures .0) (at-y-at .ensures .0) (at-z-at .ensures .0) (at-kind-at .ensures) (at-variable .ensures) (at-variable2 .ensures) (has-none _ (at-compute .ensures) (c .enum-told .given .1))
+    compute-stops (start .pre .0) (computing-at (start .pre .1)) _ _ _ _ _ _ (at-base-of .ensures .0) (at-y-at .ensures .0) (at-z-at .ensures .0) (start .pre .1 .0) (at-variable .ensures) (at-variable2 .ensures) (has-none _ (at-compute .ensures) (c .enum-told .given .1))
 
 pub compute-step-spec : {M : Type 1} → statement M
 compute-step-spec =
@@ -108,7 +110,6 @@ compute-step-spec =
     variable-requires
     z-at-requires
     variable-requires-2
-    kind-at-requires
     compute-requires
     enum-known-n
     x-at-requires
