@@ -2,7 +2,7 @@
 # make check                the gate: every proof, every must-fail edit, every test
 # make install PREFIX=DIR   builds and installs (DESTDIR for packages); make uninstall removes it again
 # make index                target/INDEX.md: each sentence of the papers, its definitions, laws and code
-# make soak                 the library beside the model on 10 million texts (TEXTS=N for another number)
+# make soak                 the library beside the model on 10 million texts, and a tenth of that each with stars and in counts (TEXTS=N for another number)
 # make same-bytes           builds libstation.a in two folders and compares the two
 # make wheel                the Python package with the shared library inside; make check-python tests it
 # make check-r              R CMD check of the package for R, where R is installed
@@ -122,7 +122,10 @@ index:
 # Twenty texts come of each seed.
 TEXTS ?= 10000000
 soak: library
-	cd rust && $(CARGO) run --release --offline -p nuyardi --example compare -- 50000 $$(( $(TEXTS) / 20 ))
+	cd rust && $(CARGO) build --release --offline -p nuyardi --example compare
+	rust/target/release/examples/compare 50000 $$(( $(TEXTS) / 20 ))
+	rust/target/release/examples/compare 5000 $$(( $(TEXTS) / 200 )) starred
+	rust/target/release/examples/compare 25000 $$(( $(TEXTS) / 40 )) counts
 
 same-bytes:
 	tools/same-bytes

@@ -3,6 +3,3 @@ pub mod Variables
 pub mod Reading
 pub mod Answers
 pub mod Called
-pub mod Bounds
-pub mod RunBounds
-pub mod Calls

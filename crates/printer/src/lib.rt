@@ -1,6 +1,7 @@
 // What the program prints, written to a lent buffer.
 use read_bytes::Set;
 use rules::Kind;
+use rules::Machine;
 use rules::Number;
 use tables::Bytes;
 ghost use mathlib.Core.Path.{_≡_};
@@ -8,9 +9,9 @@ ghost use mathlib.Core.Bool.{true};
 ghost use mathlib.Core.List.{[], _∷_};
 ghost use Prim.Native.Nat.{_+_, _≤_, _<_};
 ghost use lib.ListN.{length, getD, drop};
-ghost use Rattle.rules.specs.Limits.{results-bytes, values-shown};
+ghost use Rattle.rules.specs.Limits.{work-bytes, results-bytes, values-shown};
 ghost use Rattle.rules.specs.Text.{tab, isName};
-ghost use Rattle.rules.specs.Printed.{digitsBefore, digits, signed, printedVariables};
+ghost use Rattle.rules.specs.Printed.{digitsBefore, digits, signed, printedVariables, printed};
 ghost use Rattle.read_fields.specs.Cuts.{more};
 ghost use Rattle.read_declarations.specs.Texts.{TextTaken, linesOf, lineAt, FormedAt};
 ghost use Rattle.printer.specs.Writes.{Writes, Prints};
@@ -224,7 +225,7 @@ fn is_unread(n: u32) -> bool
 }
 
 // What the program prints for a text, by what check and trial return and what trial leaves in results; how many bytes.
-pub fn print(text: &[u8], out: &mut [u8], checked: u32, ran: u32, results: &[u8]) -> usize
+fn put_answers(text: &[u8], out: &mut [u8], checked: u32, ran: u32, results: &[u8]) -> usize
     requires { ⌜ (length (now out) ≡ out-bytes) × (length (now results) ≡ results-bytes) × ReadUnless (now text) checked ⌝ }
     ensures { λ r. ⌜ Prints (printedAnswers (now (text .entry)) checked ran (now (results .entry))) (now (out .exit)) r ⌝ }
 {
@@ -234,4 +235,14 @@ pub fn print(text: &[u8], out: &mut [u8], checked: u32, ran: u32, results: &[u8]
     }
     let b = put_run(out, a, ran, tables::word_at(results, 0));
     show_variables(text, out, b, results)
+}
+
+// What the program of document 01 prints for the text; how many bytes.
+pub fn print(text: &[u8], work: &mut [u8], results: &mut [u8], out: &mut [u8]) -> usize
+    requires { ⌜ (length (now work) ≡ work-bytes) × (length (now results) ≡ results-bytes) × (length (now out) ≡ out-bytes) ⌝ }
+    ensures { λ r. ⌜ Prints (printed (now (text .entry))) (now (out .exit)) r ⌝ }
+{
+    let checked = station::check(text, work);
+    let ran = station::trial(text, work, Machine::PROGRAM_STEPS as u32, results);
+    put_answers(text, out, checked, ran, results)
 }

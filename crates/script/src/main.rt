@@ -58,7 +58,7 @@ fn answer(text: &[u8], out: &mut [u8]) -> usize
 {
     let mut work = io::large_buffer();
     let mut results = [0u8; Machine::RESULTS_BYTES];
-    station::print(text, &mut work, &mut results, out)
+    printer::print(text, &mut work, &mut results, out)
 }
 
 fn print_answer(text: &[u8]) {

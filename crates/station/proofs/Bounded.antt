@@ -27,7 +27,7 @@ use Rattle.soundness.proofs.Demand3.{check-decides}
 use Rattle.reckoner.specs.declared.Outcome.{Outcome}
 use Rattle.reckoner.specs.declared.Outcome.the-variants.{Given, Unbounded, Passed}
 use Rattle.reckoner.specs.Reckoned.{verdictOf}
-use Rattle.printer.proofs.Bounds.{all-get, Within, RowFits, read-within, items-small, items-few, program-fits, check-within}
+use Rattle.widths.proofs.ReadBounds.{all-get, Within, RowFits, read-within, items-small, items-few, program-fits, check-within}
 use Rattle.station.specs.declared.Reply.{Reply}
 use Rattle.station.specs.Station.{numbersIn, Found, BoundAs, boundFound}
 use Rattle.station.proofs.Words.{word-first, word-more, words-all}

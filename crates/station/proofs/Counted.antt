@@ -18,7 +18,8 @@ use Rattle.joint.proofs.Shares.{decide-lt}
 use Rattle.joint.proofs.Counts.{decide-shares, counts-alone, refuses, every-script}
 use Rattle.rules.specs.Demand.{NotStuck}
 use Rattle.tables.specs.Decode.{wordAt}
-use Rattle.printer.proofs.Called.{number-packed, word-first}
+use Rattle.widths.proofs.Words.{word-first}
+use Rattle.widths.proofs.Returned.{number-packed}
 use Rattle.areas.specs.Lengths.{areasFit}
 use Rattle.station.specs.Counts.{LentAreas, countOver, partAt, ReturnsAlone, ReturnsWrongShares, EveryCountReturned, AsRunReturns, returnedAt, PartRefused, PartClaim, EveryPartReturned}
 use Rattle.station.proofs.Texts.{ShareFits, share-fits}

@@ -13,7 +13,7 @@ use Rattle.rules.specs.Areas.{packed, cleared, wordBytes, wordsBytes, resultByt
 use Rattle.rules.specs.Demand.{NotStuck, Claim, IsRefusal, RunRefuses}
 use Rattle.soundness.proofs.LeanRuns.{lean-is-run}
 use Rattle.soundness.proofs.Demand3.{same-from-both, calls-keep-frame, one-claim, every-run}
-use Rattle.printer.proofs.Called.{number-packed}
+use Rattle.widths.proofs.Returned.{number-packed}
 use Rattle.station.specs.Demand.{Lent, runOver, trialOver, Returns, ReturnsClaim, OneClaimReturned, ReturnsRefusal, RunReturnsNeverStuck, EveryRunReturned, SameReturned, TrialReturned, LeanReturned}
 use Rattle.station.proofs.Texts.{run-fits}
 

@@ -10,7 +10,7 @@ use Rattle.rules.specs.Limits.{work-bytes, places-bytes}
 use Rattle.rules.specs.Calls.{Filled, fillNumbers, fillText}
 use Rattle.rules.specs.Areas.{packed, fillCall}
 use Rattle.filling.proofs.Search.{filled-is-accepted}
-use Rattle.printer.proofs.Called.{number-packed}
+use Rattle.widths.proofs.Returned.{number-packed}
 use Rattle.station.specs.Promises.{FillNumber, FillNumbered, FilledIn, FillReturned}
 use Rattle.station.proofs.Demand3.{check-returned}
 use Rattle.station.proofs.Refusals.{zero-returned}

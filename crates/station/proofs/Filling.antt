@@ -37,7 +37,7 @@ use Rattle.star_reader.specs.declared.Star.{Star}
 use Rattle.star_reader.specs.declared.Starred.{Starred}
 use Rattle.star_reader.specs.StarRead.{StarRead, StarredIs}
 use Rattle.filler.specs.Search.{Held, SetIs}
-use Rattle.printer.proofs.Bounds.{All, Within, read-within, lines-few}
+use Rattle.widths.proofs.ReadBounds.{All, Within, read-within, lines-few}
 use Rattle.station.specs.declared.Reply.{Reply}
 use Rattle.station.specs.Station.{numbersIn, FillAs, setAtStar}
 use Rattle.station.specs.Promises.{FillNumber}

@@ -11,7 +11,8 @@ use Rattle.rules.specs.Calls.{runText, boundText}
 use Rattle.rules.specs.Areas.{packed, wordsBytes, resultBytes, boundBytes, boundCall}
 use Rattle.tables.specs.Decode.{wordAt}
 use Rattle.bound_runs.proofs.Promises.{never-passed, enough-steps, bound-small}
-use Rattle.printer.proofs.Called.{number-packed, word-first}
+use Rattle.widths.proofs.Words.{word-first}
+use Rattle.widths.proofs.Returned.{number-packed}
 use Rattle.station.specs.Demand.{Lent, runOver}
 use Rattle.station.specs.Promises.{KeptTo, BoundKept}
 use Rattle.station.proofs.Texts.{run-fits}

@@ -7,8 +7,7 @@ use Rattle.rules.specs.Calls.{checkText}
 use Rattle.rules.specs.Areas.{packed}
 use Rattle.rules.specs.Refusals.{FromRules, LineOf}
 use Rattle.soundness.proofs.RefusedAtALine.{refused-at-a-line}
-use Rattle.printer.proofs.Called.{number-packed, line-packed}
-use Rattle.printer.proofs.Calls.{fits}
+use Rattle.widths.proofs.Returned.{number-packed, line-packed, fits}
 use Rattle.station.specs.Refusals.{ReturnsAtALine}
 use Rattle.station.proofs.Demand3.{check-returned}
 

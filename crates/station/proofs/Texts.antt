@@ -38,9 +38,9 @@ use Rattle.lean_machine.specs.declared.Ran as Declared
 use Rattle.lean_machine.specs.Runs as Leans
 use Rattle.lean_machine.specs.Runs.{Accepted}
 use Rattle.joint.proofs.Counts.{refusing, whole-heap-is-run}
-use Rattle.printer.proofs.Bounds.{items-small, items-few, program-fits}
-use Rattle.printer.proofs.RunBounds.{outcome-fits}
-use Rattle.printer.proofs.Calls.{fits}
+use Rattle.widths.proofs.ReadBounds.{items-small, items-few, program-fits}
+use Rattle.widths.proofs.RunBounds.{outcome-fits}
+use Rattle.widths.proofs.Returned.{fits}
 use Rattle.station.specs.declared.Reply.{Reply}
 use Rattle.station.specs.Station.{numbersIn, runNumbers, Found, unlessRefused, shareRun, leanRun}
 

@@ -27,7 +27,6 @@ ghost use Rattle.rules.specs.Reading.{readText};
 ghost use Rattle.rules.specs.Rules.{checkProgram};
 ghost use Rattle.rules.specs.Calls.{verdictNumbers, checkText};
 ghost use Rattle.rules.specs.Areas.{packed, wordsBytes, checkCall, runCall, trialCall, leanCall, boundCall, fillCall};
-ghost use Rattle.rules.specs.Printed.{printed};
 ghost use Rattle.tables.specs.Numbers.{half-values};
 ghost use Rattle.tables.specs.Decode.{programIn};
 ghost use Rattle.tables.specs.Tables.{Tables};
@@ -35,8 +34,6 @@ ghost use Rattle.reader.specs.Readings as Reader;
 ghost use Rattle.reader.specs.Readings.{framedVerdict};
 ghost use Rattle.checker.specs.Checked as Checker;
 ghost use Rattle.machine.specs.Runs.{mainValues};
-ghost use Rattle.printer.specs.Writes.{Prints};
-ghost use Rattle.printer.specs.Answers.{out-bytes};
 ghost use Rattle.station.specs.Station.{numbersIn, Found, RunAs, unlessRefused, shareRun, CheckLeaves, RunLeaves, BoundLeaves, FillLeaves};
 
 // A number of document 01's table, and the line that it goes with.
@@ -276,16 +273,4 @@ pub extern "C" fn fill(text: &[u8], work: &mut [u8], places: &mut [u8]) -> u32
     let f = fill_text(text, work, places);
     areas::clear(work);
     pack(f)
-}
-
-// PRINT
-
-// What the program of document 01 prints for the text; how many bytes.
-pub fn print(text: &[u8], work: &mut [u8], results: &mut [u8], out: &mut [u8]) -> usize
-    requires { ⌜ (length (now work) ≡ work-bytes) × (length (now results) ≡ results-bytes) × (length (now out) ≡ out-bytes) ⌝ }
-    ensures { λ r. ⌜ Prints (printed (now (text .entry))) (now (out .exit)) r ⌝ }
-{
-    let checked = check(text, work);
-    let ran = trial(text, work, Machine::PROGRAM_STEPS as u32, results);
-    printer::print(text, out, checked, ran, results)
 }

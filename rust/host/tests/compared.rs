@@ -185,13 +185,13 @@ fn lengths_and_single_bytes() {
     }
 }
 
-/// At least a million texts; a fortieth of them without optimisation. How often
+/// Texts of so many seeds; a fortieth of them without optimisation. How often
 /// each call gave each number.
-fn a_million(texts: Texts) -> Counts {
+fn compared(texts: Texts, seeds: u64) -> Counts {
     let seeds = if cfg!(debug_assertions) {
-        1_250
+        seeds / 40
     } else {
-        50_000
+        seeds
     };
     let counts = match compare_seeds(texts, 0..seeds) {
         Ok(counts) => counts,
@@ -203,7 +203,6 @@ fn a_million(texts: Texts) -> Counts {
         println!("{call} {counts:?}");
     }
     assert_eq!(texts, seeds * (1 + compare::MUTATIONS as u64));
-    assert!(cfg!(debug_assertions) || texts >= 1_000_000);
     counts
 }
 
@@ -217,7 +216,9 @@ fn gave(call: &str, counts: &[u64], numbers: &[RangeInclusive<usize>]) {
 
 #[test]
 fn a_million_texts() {
-    let [checks, runs, trials, bounds, leans, fills] = a_million(Texts::Any);
+    let [checks, runs, trials, bounds, leans, fills] = compared(Texts::Any, 50_000);
+    let texts: u64 = checks.iter().sum();
+    assert!(cfg!(debug_assertions) || texts >= 1_000_000);
     assert_eq!(leans, runs, "lean's numbers are run's");
     gave("check", &checks, &[0..=0, 2..=14]);
     gave("run", &runs, &[0..=0, 2..=14, 21..=23, 27..=27]);
@@ -227,22 +228,23 @@ fn a_million_texts() {
     gave("fill", &fills, &[2..=9, 18..=18]);
 }
 
-/// W11: texts with a `requires` line to be filled in.
+/// W11: a hundred thousand texts with a `requires` line to be filled in; more by
+/// `make soak`.
 #[test]
-fn a_million_texts_to_be_filled_in() {
-    let [checks, .., fills] = a_million(Texts::Starred);
+fn texts_to_be_filled_in() {
+    let [checks, .., fills] = compared(Texts::Starred, 5_000);
     gave("check", &checks, &[0..=0, 2..=14]);
     gave("fill", &fills, &[0..=0, 2..=9, 17..=18]);
 }
 
-/// W12: counts of up to four scripts, a quarter of a million of them: a million
-/// scripts; a fortieth of them without optimisation.
+/// W12: counts of up to four scripts, 25,000 of them: a hundred thousand scripts;
+/// a tenth of them without optimisation, more by `make soak`.
 #[test]
-fn a_million_scripts_in_counts() {
+fn scripts_in_counts() {
     let days = if cfg!(debug_assertions) {
-        6_250
+        2_500
     } else {
-        250_000
+        25_000
     };
     let [calls, scripts] = match compare_days(0..days) {
         Ok(counts) => counts,

@@ -1,67 +1,78 @@
 -- `printer::print` meets its contract. Assumes nothing.
-use mathlib.Core.Path.{sym, ap, _∙_}
-use native.Mathlib.Omega.{arith}
-use Rattle.printer.specs.Answers.{runLine}
-use Rattle.printer.proofs.Writes.{writes-on, writes-as}
-use Rattle.printer.proofs.Reading.{read-parts}
-use Rattle.printer.proofs.Answers.{check-few, run-few, written, unread-printed, read-printed}
+use mathlib.Core.Path.{_≡_, ap, _∙_}
+use mathlib.Core.List.{List}
+use Prim.Native.Nat.{ℕ}
+use lib.ListN.{length}
 use borrow.Author.Needs.{needs}
+use borrow.Author.Tests.{eq-eqb}
+use Rattle.rules.specs.Limits.{work-bytes, results-bytes, program-steps}
+use Rattle.rules.specs.Calls.{checkText, trialText}
+use Rattle.rules.specs.Areas.{packed, cleared, resultBytes, Checked, checkCall, Ran, ranCall, trialCall}
+use Rattle.rules.specs.Printed.{printed}
+use Rattle.printer.specs.Writes.{Prints}
+use Rattle.printer.specs.Answers.{printedAnswers, Called}
+use Rattle.printer.proofs.Called.{read-unless, printed-answers}
 use Rattle.printer.proofs.print.Statement.{statement}
 use Rattle.printer.proofs.print.Tie as tie
 
-put-check-requires : tie.Need-put-check-requires
-put-check-requires c κs = search needs
+-- the calls on areas of the right lengths
+check-is : (t w : List ℕ) → length w ≡ work-bytes → checkCall t w ≡ record { returned = packed (checkText t .0) (checkText t .1); work = cleared w }
+unfolding checkCall
+check-is t w n = rw (eq-eqb (length w) work-bytes n)
 
-is-unread-requires : tie.Need-is-unread-requires
-is-unread-requires c κs = search needs
+trial-is :
+    (t w : List ℕ) (k : ℕ) (b : List ℕ) → length w ≡ work-bytes → length b ≡ results-bytes →
+    trialCall t w k b ≡ record { returned = packed (trialText t k .number) (trialText t k .line); work = cleared w; results = resultBytes (trialText t k) }
+unfolding ranCall
+trial-is t w k b m n = rw (eq-eqb (length w) work-bytes m, eq-eqb (length b) results-bytes n)
+
+called :
+    {t : List ℕ} (w v b : List ℕ) {checked ran : ℕ} {d : List ℕ} → length w ≡ work-bytes → length v ≡ work-bytes → length b ≡ results-bytes →
+    checked ≡ checkCall t w .returned → ran ≡ trialCall t v program-steps b .returned → d ≡ trialCall t v program-steps b .results →
+    Called t checked ran d
+called {t = t} w v b l m n c r d =
+    record {
+      check = c ∙ ap (λ (x : Checked). x .returned) (check-is t w l);
+      trial = r ∙ ap (λ (x : Ran). x .returned) (trial-is t v program-steps b m n);
+      results = d ∙ ap (λ (x : Ran). x .results) (trial-is t v program-steps b m n);
+    }
+
+prints :
+    {t : List ℕ} {checked ran : ℕ} {d o : List ℕ} {r : ℕ} → Called t checked ran d → Prints (printedAnswers t checked ran d) o r →
+    Prints (printed t) o r
+prints c x = record { high = x .high; are = x .are ∙ printed-answers _ _ _ _ c }
+
+check-requires : tie.Need-check-requires
+check-requires c κs = search needs
+
+cast-trial : tie.Need-cast-trial
+cast-trial c = search needs
+
+trial-requires : tie.Need-trial-requires
+trial-requires c κs = search needs
+
+put-answers-requires : tie.Need-put-answers-requires
+put-answers-requires c κs =
+    let p = c .before .before .before .before .before .before .before .before .before .before .before .before .before .before .before .before .before .pre in
+    let x = c .before .before .before .before .before .before .before .before .before .before .before .check .ensures .0 ∙ ap (λ (x : Checked). x .returned) (check-is _ _ (p .0)) in
+    (p .2, c .before .before .before .before .before .before .trial .kept .1 .1 .1 .0 ∙ p .1, read-unless _ _ x)
 
 same-length : tie.Need-same-length
 same-length c = search needs
 
-returns : tie.Need-returns
-returns c =
-    let v = c .before .before .before .before .before .before .before .before .before .args in
-    written (c .before .before .before .before .put-check .ensures) (unread-printed (v .text .now) (v .checked) (v .ran) (v .results .now) (sym (c .before .is-unread .ensures) ∙ c .if1 .taken))
-
-word-at-requires : tie.Need-word-at-requires
-word-at-requires c κs = search needs
-
-put-run-requires : tie.Need-put-run-requires
-put-run-requires c κs =
-    let x = c .before .before .before .before .before .before .put-check .ensures in
-    omega (arith, x .end, x .size, check-few (c .before .before .before .before .before .before .before .before .before .before .before .args .checked), c .before .before .before .before .before .before .before .before .before .before .before .pre .0)
-
-show-variables-requires : tie.Need-show-variables-requires
-show-variables-requires c κs =
-    let v = c .before .before .before .before .before .before .before .before .before .before .before .before .before .before .before .args in
-    let p = c .before .before .before .before .before .before .before .before .before .before .before .before .before .before .before .pre in
-    let x = c .before .before .before .before .before .before .before .before .before .before .put-check .ensures in
-    let y = c .before .before .before .put-run .ensures in
-    let (items, e) = p .2 (sym (c .before .before .before .before .before .before .before .is-unread .ensures) ∙ c .before .before .before .before .before .before .if1 .left) in
-    (omega (arith, x .end, y .end, x .size, y .size, check-few (v .checked), run-few (v .ran) (c .before .before .before .before .word-at .result), p .0), p .1, read-parts (v .text .now) items e .taken)
-
 same-length-2 : tie.Need-same-length-2
 same-length-2 c = search needs
 
-returns-2 : tie.Need-returns-2
-returns-2 c =
-    let v = c .before .before .before .before .before .before .before .before .before .before .before .before .before .before .before .before .before .before .args in
-    let n = sym (c .before .before .before .before .before .before .before .before .before .before .is-unread .ensures) ∙ c .before .before .before .before .before .before .before .before .before .if1 .left in
-    let (items, e) = c .before .before .before .before .before .before .before .before .before .before .before .before .before .before .before .before .before .before .pre .2 n in
-    let y = writes-as (c .before .before .before .before .before .before .put-run .ensures) (ap (λ k. runLine (v .ran) k) (c .before .before .before .before .before .before .before .word-at .ensures)) in
-    written (writes-on (c .before .before .before .before .before .before .before .before .before .before .before .before .before .put-check .ensures) (writes-on y (c .before .before .show-variables .ensures)))
-    (read-printed (v .text .now) (v .checked) (v .ran) (v .results .now) n items e)
+same-length-3 : tie.Need-same-length-3
+same-length-3 c = search needs
+
+returns : tie.Need-returns
+returns c =
+    let p = c .before .before .before .before .before .before .before .before .before .before .before .before .before .before .before .before .before .before .before .before .pre in
+    let y = c .before .before .before .before .before .before .before .before .before .trial in
+    let x = c .before .before .before .before .before .before .before .before .before .before .before .before .before .before .check in
+    let k = called _ _ _ (p .0) (x .kept .1 .0 ∙ p .0) (p .1) (x .ensures .0) (y .ensures .0) (y .ensures .2) in
+    prints k (c .before .before .put-answers .ensures)
 
 pub print-spec : {M : Type 1} → statement M
-print-spec =
-    tie.close
-    (tie.spec
-    put-check-requires
-    is-unread-requires
-    same-length
-    returns
-    word-at-requires
-    put-run-requires
-    show-variables-requires
-    same-length-2
-    returns-2)
+print-spec = tie.close (tie.spec check-requires cast-trial trial-requires put-answers-requires same-length same-length-2 same-length-3 returns)

@@ -7,7 +7,7 @@ use mathlib.Core.Option.{some}
 use Prim.Native.Nat.{ℕ, zero, suc, _+_, _≤_, _<_}
 use native.Mathlib.Omega.{arith}
 use lib.Dec.{eqb, ltb}
-use lib.ListN.{length, getD, drop, length-map}
+use lib.ListN.{length, getD, drop}
 use borrow.Author.Tests.{ltb-false}
 use Rattle.rules.specs.Base as Base
 use Rattle.rules.specs.Base.{Name, Try, ok, no, update}
@@ -31,8 +31,7 @@ use Rattle.rules.specs.Rules.{Following, inFirst, inSecond, inLoop, reached, ch
 use Rattle.rules.specs.Calls.{checkItems}
 use Rattle.rules.proofs.Tries.{refused-accepted, accepted-inj, atLine-accepted, then-accepted}
 use Rattle.rules.proofs.Signs.{number-small}
-use Rattle.rules.proofs.LinesTaken.{lineOf, TakenLines, none, line}
-use Rattle.read_scan.proofs.Scans.{lines-taken}
+use Rattle.rules.proofs.LinesTaken.{lineOf, TakenLines, none, line, as-many}
 
 -- EACH OF A LIST
 abbrev pub All : {A : Type 0} → (A → Type 0) → List A → Type 0
@@ -121,7 +120,7 @@ read-within t = go (ltb most-bytes (length t)) refl
     go false e =
         let few : length (lines t) ≤ 32768 = omega (arith, lines-few t, ltb-false most-bytes (length t) (sym e)) in
         then-within most-bytes (scanLines (lines t) 0 firstPlace) _ (scan-within most-bytes (lines t) 0 firstPlace (omega arith))
-        (λ ls i. resolve-within most-bytes (declarations ls) ls 0 firstScope (omega (arith, few, ap length (lines-taken (lines t) 0 firstPlace ls i), length-map (lines t) Rattle.read_scan.specs.Scans.lineOf)))
+        (λ ls i. resolve-within most-bytes (declarations ls) ls 0 firstScope (omega (arith, few, as-many (lines t) 0 firstPlace ls i)))
 
 resolved-few :
     (Γ : Declarations) (ls : List Line) (n : ℕ) (s : Scope) (items : List Item) → resolveLines Γ ls n s ≡ accepted items → length items ≡ length ls
@@ -146,7 +145,7 @@ items-few t items e = go (ltb most-bytes (length t)) refl e
     go true i e = refused-accepted e
     go false i e =
         let (ls, j, k) = then-accepted (scanLines (lines t) 0 firstPlace) _ items e in
-        omega (arith, resolved-few (declarations ls) ls 0 firstScope items k, lines-few t, ltb-false most-bytes (length t) (sym i), ap length (lines-taken (lines t) 0 firstPlace ls j), length-map (lines t) Rattle.read_scan.specs.Scans.lineOf)
+        omega (arith, resolved-few (declarations ls) ls 0 firstScope items k, lines-few t, ltb-false most-bytes (length t) (sym i), as-many (lines t) 0 firstPlace ls j)
 
 -- NUMBERS OF THE PROGRAM
 abbrev pub Small : ℕ → Type 0

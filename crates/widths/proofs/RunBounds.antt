@@ -20,7 +20,7 @@ use Rattle.rules.specs.Machine.{ifStep, loopStep, againStep, stored, setStep, a
 use Rattle.rules.proofs.Lists.{update-length, and-both}
 use Rattle.rules.proofs.Tries.{ok-inj, bind-ok, check-ok}
 use Rattle.rules.proofs.States.{on-inj, took-on}
-use Rattle.printer.proofs.Bounds.{All, all-get, all-update, Small, SmallExpr, SmallSimple, SmallStmt, RowFits, ProgramFits}
+use Rattle.widths.proofs.ReadBounds.{All, all-get, all-update, Small, SmallExpr, SmallSimple, SmallStmt, RowFits, ProgramFits}
 
 -- VALUES OF A HEAP
 abbrev SmallCell : Cell → Type 0

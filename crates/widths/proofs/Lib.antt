@@ -1,0 +1,4 @@
+pub mod ReadBounds
+pub mod RunBounds
+pub mod Words
+pub mod Returned
