@@ -59,6 +59,7 @@ above-free {w} {w′} {c} {m} a n l h s S =
       ghost = patched v w′ a n;
       holder = S .holder;
       holders = S .holders;
+      base = S .base;
       represents =
           above-kept (S .represents) (patched v w′ a n) (only-wide P (omega (arith, f)) h)
           (P .bytes (frameAt (length (m .callers)) + frame-method) (inl (omega (arith, f))));

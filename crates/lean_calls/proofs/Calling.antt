@@ -184,7 +184,7 @@ module _ {w : List ℕ} {c : Counters} (k : AtKind w c Call) where
             let fit : SharesFit (spread u (c .objects) ss) =
             Calls.calling g (kind-is S k) y z n o p (ey ∙ y-is S) (ez ∙ z-is S) (en ∙ member-is S) o-is p-is lo lp .fit ss e in
             let i : frameAt (c .frames) ≡ frameAt (c .frames - 1) + 72 = omega (arith, frames-fit S .0) in
-            on-as S h h (does-as here D)
+            on-as S h h (omega (arith, S .base, frames-fit S .0)) (does-as here D)
             (ghost-marked (spread u (c .objects) ss) (S .holder) h fit
             (rw i (framed-bare (c .frames - 1) (S .holder) (c .row) n o p (omega (arith, lf, ghost-size S)) (S .bare))))
 

@@ -113,7 +113,7 @@ module _ {w : List ℕ} {c : Counters} (k : AtKind w c New) (R : CanStep w c) (c
           (omega arith)))
           (λ m S U.
           let B = subst (Bare _) (sym eu) (made-bare (c .objects) (c .fields) n class (S .holder) (ghost-size S) lo lf (S .bare)) in
-          on-as S (S .holder) (S .holders)
+          on-as S (S .holder) (S .holders) (S .base)
           (does-as (here S)
           (Grows.new-does (ghost-ready S (R .more)) (kind-is S k) heap-objects heap-fields (omega arith) (omega arith) class n (class-is S) (count-is S en)
           (viewOf (K S)) x lo lf refl (ex ∙ x-is S) refl refl))

@@ -189,7 +189,7 @@ module _ {w : List ℕ} {c : Counters} (k : AtKind w c Return ⊎ AtKind w c End
             let D =
             Returns.leave-does ready many ss h r x n e refl lh r-is (ex ∙ x-same)
             (sym (this-variable v (frameAt (c .frames - 1)) result-variable n (omega (arith, ghost-size S, frames-fit S .1)) ln)) ln refl refl in
-            on-as S h (S .holders) (does-as here (return-goes g (viewOf K) refl s n s-is n-is ln refl D _ refl))
+            on-as S h (S .holders) (omega (arith, S .base, many, frames-fit S .0)) (does-as here (return-goes g (viewOf K) refl s n s-is n-is ln refl D _ refl))
             (word-both to n (omega (arith, only-marked v₁ (spread v₁ (c .objects) ss) (S .holder) h fit .size, l1, first, frames-fit S .1))
             (ghost-marked (spread v₁ (c .objects) ss) (S .holder) h fit
             (word-both from n (omega (arith, ghost-size S, frames-fit S .1)) (S .bare))))

@@ -2,7 +2,7 @@
 use mathlib.Core.List.{List}
 use Prim.Native.Nat.{ℕ, _+_, _*_, _-_}
 use lib.ListN.{set}
-use Rattle.tables.specs.Layout.{frame-variables, values-at, objects-at, object-bytes}
+use Rattle.tables.specs.Layout.{frame-variables, frame-bytes, values-at, objects-at, object-bytes}
 use Rattle.tables.specs.Stores.{putHalf, putWord}
 use Rattle.run_heap.specs.Views.{word-bytes, frame-parameter, frame-row, object-first, fill}
 use Rattle.lean_heap.specs.declared.Counters.{Counters}
@@ -12,17 +12,17 @@ use Rattle.lean_heap.specs.declared.Counters.{Counters}
 -- a call more
 abbrev pub called : Counters → ℕ → Counters
 called c row =
-    record { objects = c .objects; fields = c .fields; frames = c .frames + 1; row = row; steps = c .steps + 1 }
+    record { objects = c .objects; fields = c .fields; frames = c .frames + 1; base = c .base + frame-bytes; row = row; steps = c .steps + 1 }
 
 -- back in the caller
 abbrev pub back : Counters → ℕ → Counters
 back c row =
-    record { objects = c .objects; fields = c .fields; frames = c .frames - 1; row = row; steps = c .steps + 1 }
+    record { objects = c .objects; fields = c .fields; frames = c .frames - 1; base = c .base - frame-bytes; row = row; steps = c .steps + 1 }
 
 -- an object more, with n fields
 abbrev pub larger : Counters → ℕ → Counters
 larger c n =
-    record { objects = c .objects + 1; fields = c .fields + n; frames = c .frames; row = c .row + 1; steps = c .steps + 1 }
+    record { objects = c .objects + 1; fields = c .fields + n; frames = c .frames; base = c .base; row = c .row + 1; steps = c .steps + 1 }
 
 -- STORES
 

@@ -38,13 +38,14 @@ fn prepare(work: &mut [u8], a: usize, row: usize, o: u32, p: u32)
 
 // One step more, in a call.
 fn call_in(c: Counters, row: u32) -> Counters
-    requires { ⌜ (c .steps < most-count) × (c .frames < most-frames) ⌝ }
+    requires { ⌜ ((c .steps < most-count) × (c .frames < most-frames)) × (c .base < work-bytes) ⌝ }
     ensures { λ r. ⌜ r ≡ called c row ⌝ }
 {
     Counters {
         objects: c.objects,
         fields: c.fields,
         frames: c.frames + 1,
+        base: c.base + Layout::FRAME_BYTES,
         row: row,
         steps: c.steps + 1,
     }
@@ -72,13 +73,14 @@ pub fn call_step(work: &mut [u8], c: Counters) -> Turn
 
 // One step more, back in the caller.
 fn back_in(c: Counters, row: u32) -> Counters
-    requires { ⌜ (c .steps < most-count) × (1 ≤ c .frames) ⌝ }
+    requires { ⌜ ((c .steps < most-count) × (1 ≤ c .frames)) × (frame-bytes ≤ c .base) ⌝ }
     ensures { λ r. ⌜ r ≡ back c row ⌝ }
 {
     Counters {
         objects: c.objects,
         fields: c.fields,
         frames: c.frames - 1,
+        base: c.base - Layout::FRAME_BYTES,
         row: row,
         steps: c.steps + 1,
     }
@@ -122,6 +124,7 @@ fn grow(c: Counters, n: u32) -> Counters
         objects: c.objects + 1,
         fields: c.fields + n,
         frames: c.frames,
+        base: c.base,
         row: c.row + 1,
         steps: c.steps + 1,
     }

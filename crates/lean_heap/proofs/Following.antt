@@ -136,15 +136,15 @@ module _ {w : List ℕ} {c : Counters} {m : Config} (S : Stands w c m) where
   step-is s e = ap (λ (P : Program). step wholeHeap P m) program-is ∙ e
 
   pub on-as :
-      {v′ w′ : List ℕ} {d : Counters} (h hs : ℕ) →
+      {v′ w′ : List ℕ} {d : Counters} (h hs : ℕ) → d .base ≡ frameAt (d .frames - 1) →
       States.Does (S .ghost) (full c (S .holder) (S .holders)) v′ (Full.Turn.On (full d h hs)) (step wholeHeap (programIn (S .ghost))) →
       Bare v′ w′ → Follows w′ c (Turn.On d) m (step wholeHeap (programIn w) m)
-  on-as {v′} {w′} {d} h hs D B =
+  on-as {v′} {w′} {d} h hs b D B =
       let N = D .follows m (S .represents) in
       record {
         next = N .next;
         is-next = step-is _ (N .is-next);
-        stands = record { ghost = v′; holder = h; holders = hs; represents = N .represents; bare = B };
+        stands = record { ghost = v′; holder = h; holders = hs; represents = N .represents; bare = B; base = b };
         counted = N .counted;
       }
 

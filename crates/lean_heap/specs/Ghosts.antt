@@ -58,6 +58,7 @@ pub record Stands (w : List ℕ) (c : Counters) (m : Config) : Type 0 where
   pub holders : ℕ
   pub represents : Represents ghost (full c holder holders) m
   pub bare : Bare ghost w
+  pub base : c .base ≡ frameAt (c .frames - 1)
 
 -- STEPS
 
@@ -106,7 +107,7 @@ AtKind w c s = kindAt w (c .row) ≡ statementNumber s
 
 -- one step more, on to a row
 abbrev pub stepped : Counters → ℕ → Counters
-stepped c row = record { objects = c .objects; fields = c .fields; frames = c .frames; row = row; steps = c .steps + 1 }
+stepped c row = record { objects = c .objects; fields = c .fields; frames = c .frames; base = c .base; row = row; steps = c .steps + 1 }
 
 -- READING, where no test is needed
 

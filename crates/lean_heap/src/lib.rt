@@ -17,6 +17,8 @@ pub struct Counters {
     pub objects: u32,
     pub fields: u32,
     pub frames: u32,
+    // where the last of these stands
+    pub base: usize,
     pub row: u32,
     pub steps: u32,
 }
@@ -40,11 +42,10 @@ const FIRST_AT: usize = 2;
 
 // Where the running frame stands.
 pub fn base_of(c: Counters) -> usize
-    requires { ⌜ (1 ≤ c .frames) × (c .frames ≤ most-frames) ⌝ }
+    requires { ⌜ ((1 ≤ c .frames) × (c .frames ≤ most-frames)) × (c .base ≡ frameAt (c .frames - 1)) ⌝ }
     ensures { λ r. ⌜ (r ≡ frameAt (c .frames - 1)) × (r + frame-holder ≤ work-bytes) ⌝ }
 {
-    let i = c.frames - 1;
-    Layout::FRAMES + i as usize * Layout::FRAME_BYTES
+    c.base
 }
 
 // The cell of a field of the object o.
@@ -91,6 +92,7 @@ pub fn next(c: Counters, row: u32) -> Counters
         objects: c.objects,
         fields: c.fields,
         frames: c.frames,
+        base: c.base,
         row: row,
         steps: c.steps + 1,
     }

@@ -88,6 +88,7 @@ going w w′ k c t a q p =
                 holders = 1;
                 represents = begins w t;
                 bare = record { size = refl; bytes = λ j s. refl };
+                base = refl;
               };
           within = omega arith;
           is-run = let e : k - 0 ≡ k = omega arith in rw (e, b) refl;

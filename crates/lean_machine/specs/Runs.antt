@@ -12,6 +12,7 @@ use Rattle.tables.specs.Decode.{programIn}
 use Rattle.tables.specs.Stores.{SameTables}
 use Rattle.machine.specs.Runs.{mainValues}
 use Rattle.lean_heap.specs.declared.Counters.{Counters}
+use Rattle.tables.specs.Layout.{frames-at}
 use Rattle.lean_heap.specs.Ghosts.{stopIn}
 use Rattle.lean_machine.specs.declared.Ending.{Ending}
 use Rattle.lean_machine.specs.declared.Ran.{Ran}
@@ -22,7 +23,7 @@ Accepted P = WellFormed P × (checkProgram P ≡ accepted tt)
 
 -- "from the empty heap and main's frame"
 abbrev pub fresh : ℕ → Counters
-fresh row = record { objects = 0; fields = 0; frames = 1; row = row; steps = 0 }
+fresh row = record { objects = 0; fields = 0; frames = 1; base = frames-at; row = row; steps = 0 }
 
 unfoldable pub endingIn : Ending → Lean.Ending
 endingIn Ending.Finished = Lean.Ending.finished

@@ -93,6 +93,7 @@ fn begin(work: &mut [u8]) -> Counters
         objects: 0,
         fields: 0,
         frames: 1,
+        base: Layout::FRAMES,
         row: row as u32,
         steps: 0,
     }

@@ -79,6 +79,7 @@ module _ {w : List ℕ} {c : Counters} {m : Config} (S : Stands w c m) where
               holders = S .holders;
               represents = moved-on (S .represents) n;
               bare = S .bare;
+              base = S .base;
             };
         counted = refl;
       }
@@ -118,7 +119,7 @@ module _ {w : List ℕ} {c : Counters} (more : c .steps < 4294967295) (m : Confi
       let (A, e, _) = try-ok (footprint (m .heap) (m .frame) φ) _ _ (footprint-only (m .heap) (m .frame) φ) u in
       let (ss, t) = formula-taken S φ A (row-formula-ok (S .represents)) e in
       let g = ghost-ready S more in
-      on-as S (S .holder) (S .holders)
+      on-as S (S .holder) (S .holders) (S .base)
       (Stepping.does-as (Stepping.release-is wholeHeap k′) (Steps.release-does g ss (λ z. omega (arith, k′, z)) t refl refl))
       (ghost-marked (spread (G S) (c .objects) ss) (S .holder) 0 (Steps.release-fit g ss (viewOf (M S)) refl t) (S .bare))
 
@@ -135,7 +136,7 @@ jump-does {w} {c} R k i ei q =
     (λ m S U.
     let k′ : States.Jumps (G S) (M S) = ⊎-elim (λ e. inl (kind-is S e)) (λ e. inr (kind-is S e)) k in
     rw (target-is S)
-    (on-as S (S .holder) (S .holders)
+    (on-as S (S .holder) (S .holders) (S .base)
     (Stepping.does-as (Stepping.jump-is wholeHeap k′) (Steps.jump-does (ghost-ready S (R .more)) k′ refl)) (S .bare)))
 
 -- CONDITIONS
@@ -256,7 +257,7 @@ module _ {w : List ℕ} {c : Counters} {a : ℕ} (R : CanStep w c) (chooses : Ch
         does-on refl q (same-refl w)
         (λ m S U.
         let C = comes a (R .more) m S U K in
-        on-as S (S .holder) (S .holders)
+        on-as S (S .holder) (S .holders) (S .base)
         (C .lifts
         (Steps.if-holds (ghost-ready S (R .more)) (C .chooses) (viewOf (M S)) a (C .atom) refl
         (tested a (R .more) m S U C b l r el er t eb ml mr vl vr compares ∙ ap ok h) refl))
@@ -268,7 +269,7 @@ module _ {w : List ℕ} {c : Counters} {a : ℕ} (R : CanStep w c) (chooses : Ch
         (λ m S U.
         let C = comes a (R .more) m S U K in
         rw (target-is S)
-        (on-as S (S .holder) (S .holders)
+        (on-as S (S .holder) (S .holders) (S .base)
         (C .lifts
         (Steps.if-fails (ghost-ready S (R .more)) (C .chooses) (viewOf (M S)) a (C .atom) refl
         (tested a (R .more) m S U C b l r el er t eb ml mr vl vr compares ∙ ap ok h) refl))
@@ -332,7 +333,7 @@ module _ {w : List ℕ} {c : Counters} (R : CanStep w c) (k : AtKind w c Let) (a
       does-on p r (word-tables R b x n eb (x-small R ex))
       (λ m S U.
       let i : n ≡ let-value k (R .more) m S U .0 = en ∙ let-read k (R .more) m S U a b e ea eb q .1 in
-      on-as S (S .holder) (S .holders)
+      on-as S (S .holder) (S .holders) (S .base)
       (Stepping.does-as (Stepping.let-is wholeHeap (kind-is S k))
       (Steps.let-does (ghost-ready S (R .more)) (kind-is S k) (viewOf (M S)) (firstAtomAt (G S) (c .row)) refl refl x n
       (ex ∙ x-is S) ln (let-value k (R .more) m S U .1 ∙ ap ok (sym i)) refl refl))
@@ -406,7 +407,7 @@ module _ {w : List ℕ} {c : Counters} (R : CanStep w c) (k : AtKind w c Open) (
       let n′ : n ≡ cellValue (G S) (O .cell) = en ∙ (ap (cellValue w) i ∙ bare-value (S .bare) (O .cell) l) in
       let H : States.Opening (G S) (M S) (memberAt (G S) (c .row)) (O .cell) =
       record { ready = ghost-ready S (R .more); at-open = kind-is S k; field = refl; cell = O .is-cell } in
-      on-as S (S .holder) (S .holders)
+      on-as S (S .holder) (S .holders) (S .base)
       (Stepping.does-as (Stepping.open-is wholeHeap (kind-is S k))
       (Steps.open-does H (viewOf (M S)) n refl n′ y (O .last) (ey ∙ x-is S) ln (rw n′ (O .walked)) refl refl))
       (word-bare R S b y n eb (x-small R ey)))
@@ -426,7 +427,7 @@ module _ {w : List ℕ} {c : Counters} (R : CanStep w c) (t : T (isComputing (ki
   compute-does x n ex ln e p q =
       does-on p q (word-tables R b x n eb (x-small R ex))
       (λ m S U.
-      on-as S (S .holder) (S .holders)
+      on-as S (S .holder) (S .holders) (S .base)
       (Stepping.does-as (Stepping.compute-is wholeHeap (computing S))
       (Steps.compute-does (ghost-ready S (R .more)) (computing S) (viewOf (M S)) refl y z k n₁ n₂ (ey ∙ y-is S) (ez ∙ z-is S) (ek ∙ sym (kind-is S refl))
       (ghost-variable S y n₁ (y-small R ey) e₁) (ghost-variable S z n₂ (z-small R ez) e₂) x n (ex ∙ x-is S) ln e refl refl))
@@ -475,7 +476,7 @@ module _ {w : List ℕ} {c : Counters} (R : CanStep w c) (k : AtKind w c Set) (b
       does-on p q (only-tables (only-word values-at holders-at w (values-at + j * 4) n (omega arith) (omega arith)) (omega arith))
       (λ m S U.
       let j′ : j ≡ set-spot k m S U .0 = ej ∙ (ap (λ (i : ℕ). cellIn w i f) eo ∙ set-there m S U .1) in
-      on-as S (S .holder) (S .holders)
+      on-as S (S .holder) (S .holders) (S .base)
       (Stepping.does-as (Stepping.set-is wholeHeap (kind-is S k))
       (Steps.set-does (ghost-ready S (R .more)) (kind-is S k) (viewOf (M S)) (xAt (G S) (c .row)) (memberAt (G S) (c .row)) refl refl refl j y n
       (set-spot k m S U .1 ∙ ap ok (sym j′)) (ey ∙ y-is S) ln
