@@ -21,6 +21,7 @@ mod papers;
 mod quotes;
 mod shape;
 mod unused;
+mod words;
 
 pub use believed::{believed, closure, imported, listed};
 pub use declared::{declarations, Declaration};
@@ -37,6 +38,7 @@ pub use papers::{papers, plain, Paper, Sentence};
 pub use quotes::{quotes, Quote};
 pub use shape::{long_clauses, long_files, long_functions};
 pub use unused::{unused_declarations, unused_imports, File};
+pub use words::{avoided_words, texts_for_people, Avoided, AVOIDED};
 
 /// Names that open all others of their file, so that standing there is no use.
 const UMBRELLAS: [&str; 2] = ["opened", "computing"];

@@ -1,0 +1,124 @@
+//! Words that a native engineer would not use, in what people read.
+
+use crate::{entries, plain, root};
+use std::fs;
+use std::path::Path;
+
+/// A word to avoid, and what to write instead.
+pub struct Avoided {
+    pub word: &'static str,
+    pub instead: &'static str,
+}
+
+const fn avoid(word: &'static str, instead: &'static str) -> Avoided {
+    Avoided { word, instead }
+}
+
+pub const AVOIDED: [Avoided; 23] = [
+    avoid("mend", "fix"),
+    avoid("mends", "fixes"),
+    avoid("mended", "fixed"),
+    avoid("anew", "again"),
+    avoid("parted by", "separated by"),
+    avoid("part fields", "separate fields"),
+    avoid("heed", "follow"),
+    avoid("heeds", "follows"),
+    avoid("heeded", "followed"),
+    avoid("whilst", "while"),
+    avoid("lest", "so that .. not"),
+    avoid("wherein", "in which"),
+    avoid("thereof", "of it"),
+    avoid("hereby", "by this"),
+    avoid("whence", "from where"),
+    avoid("thence", "from there"),
+    avoid("hence", "so"),
+    avoid("albeit", "although"),
+    avoid("upon", "on"),
+    avoid("likewise", "also"),
+    avoid("dearest", "most expensive"),
+    avoid("dearer", "more expensive"),
+    avoid("can not", "cannot"),
+];
+
+/// Folders and files with texts for people. The papers are as they were received, and the scripts' own names are theirs.
+const READ: [&str; 14] = [
+    "README.md",
+    "CONTRIBUTING.md",
+    "Makefile",
+    "docs",
+    "editors",
+    "hosts",
+    "include",
+    "packaging",
+    "python",
+    "R",
+    "rust/cli",
+    "rust/explain",
+    "rust/explain-c",
+    "rust/host",
+];
+
+/// Folders below them that hold what is received or made.
+const LEFT_OUT: [&str; 4] = ["papers", "target", "node_modules", "__pycache__"];
+
+/// The texts that people read: path from the root, and text. A file that is no text has none.
+pub fn texts_for_people() -> Vec<(String, String)> {
+    let mut texts = Vec::new();
+    for place in READ {
+        gather(&root().join(place), &mut texts);
+    }
+    texts
+}
+
+fn gather(path: &Path, texts: &mut Vec<(String, String)>) {
+    if path.is_dir() {
+        let name = path.file_name().map(|name| name.to_string_lossy());
+        if !name.is_some_and(|name| LEFT_OUT.contains(&name.as_ref())) {
+            entries(path).iter().for_each(|entry| gather(entry, texts));
+        }
+    } else if let Ok(text) = fs::read_to_string(path) {
+        let place = path.strip_prefix(root()).unwrap_or(path);
+        texts.push((place.to_string_lossy().into_owned(), text));
+    }
+}
+
+/// Where the word stands in the line, on its own: no letter, digit or `_` beside it.
+fn stands(line: &str, word: &str) -> Option<usize> {
+    let part = |c: char| c.is_alphanumeric() || c == '_';
+    line.match_indices(word).map(|(at, _)| at).find(|&at| {
+        let (before, after) = (&line[..at], &line[at + word.len()..]);
+        !before.ends_with(part) && !after.starts_with(part)
+    })
+}
+
+/// Whether the place stands between quotation marks around words of a paper.
+fn is_quoted(line: &str, at: usize, papers: &str) -> bool {
+    let mut marks = line.match_indices('"').map(|(mark, _)| mark);
+    let Some(begin) = marks.by_ref().take_while(|&mark| mark < at).last() else {
+        return false;
+    };
+    let end = line[at..].find('"').map_or(line.len(), |end| at + end);
+    let words = plain(&line[begin + 1..end]);
+    papers.contains(words.trim_end_matches(['.', ';', ':', ',']))
+}
+
+/// Words to avoid in a text, each with its line and what to write instead; what quotes a paper is left alone.
+pub fn avoided_words(path: &str, text: &str, papers: &str) -> Vec<String> {
+    let mut found = Vec::new();
+    for (number, line) in text.lines().enumerate() {
+        let lower = line.to_lowercase();
+        for avoided in &AVOIDED {
+            let Some(at) = stands(&lower, avoided.word) else {
+                continue;
+            };
+            if !(lower.len() == line.len() && is_quoted(line, at, papers)) {
+                let (word, instead) = (avoided.word, avoided.instead);
+                found.push(format!(
+                    "{path}:{}: `{word}`: write `{instead}`",
+                    number + 1
+                ));
+            }
+        }
+    }
+    found
+}
