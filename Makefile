@@ -4,6 +4,8 @@
 # make index                target/INDEX.md: each sentence of the papers, its definitions, laws and code
 # make soak                 the library beside the model on 10 million texts, and a tenth of that each with stars and in counts (TEXTS=N for another number)
 # make same-bytes           builds libstation.a in two folders and compares the two
+# make from-source          proves soundness, the claim, in one run from sources alone, with nothing taken from a built logic or an earlier check
+# make interpreted          the compiled calls beside the kit's interpreter
 # make wheel                the Python package with the shared library inside; make check-python tests it
 # make check-r              R CMD check of the package for R, where R is installed
 # make deb                  Debian packages of the command and the libraries; make check-deb installs and removes them in a test folder
@@ -35,7 +37,7 @@ EXPLAIN ?= rust/target/release/libnuyardi_explain.so
 INSTALL ?= install
 CARGO ?= cargo
 
-.PHONY: all library explain command check install install-files install-command install-shared install-dev uninstall index soak same-bytes mutants
+.PHONY: all library explain command check install install-files install-command install-shared install-dev uninstall index soak same-bytes from-source interpreted mutants
 
 all: library explain command
 
@@ -129,6 +131,12 @@ soak: library
 
 same-bytes:
 	tools/same-bytes
+
+from-source:
+	tools/from-source
+
+interpreted:
+	tools/interpreted/run
 
 include packaging/packages.mk
 

@@ -7,7 +7,8 @@ use native.Mathlib.Omega.{arith}
 use lib.ListN.{length}
 use Rattle.bound_laws.specs.Routes.{Loopless}
 use Rattle.rules.specs.Base.{Member, further}
-use Rattle.rules.specs.Answers.{Ending, finished, stepsTaken, stopped}
+use Rattle.rules.specs.Limits.{most-frames}
+use Rattle.rules.specs.Answers.{Ending, finished, stepsTaken, stopped, framesFull}
 use Rattle.rules.specs.Syntax.{Program, rowNumbered, methodNumbered}
 use Rattle.rules.specs.Machine.{Config, Frame, Room, statementOf, start}
 use Rattle.rules.specs.Runs.{depth, lastStep, Run, EndedBy}
@@ -18,6 +19,7 @@ use Rattle.bound_laws.proofs.Blocks.{block-goes, bound-positive, bound-some, bo
 use Rattle.bound_laws.proofs.Repeating.{methods-loopless, main-loopless, no-ring}
 use Rattle.bound_runs.proofs.InBlock.{Later, same, pass}
 use Rattle.bound_runs.proofs.Moves.{Nested, Move, goes-on, enters, returns, step-moves}
+use Rattle.bound_runs.proofs.Full.{FullAt, step-full}
 
 -- BLOCKS
 module _ (P : Program) where
@@ -164,3 +166,21 @@ module _ (P : Program) (none-repeats : firstRepeating P ≡ none) (nested : (n :
     pub frames-within : (i : ℕ) → i ≤ R .steps → suc (depth (R .state i)) ≤ mainFrames P
     unfolding depth blockFrames
     frames-within i l = omega (arith, within i l .fits)
+
+    -- a `call` that is next, with the frames full, would open one more than there are on any route
+    pub never-full : mainFrames P ≤ most-frames → R .ending ≡ stopped framesFull → ⊥
+    unfolding statementOf blockFrames
+    never-full l e =
+        let m : Config = R .state (R .steps) in
+        let i : ℕ = m .frame .row in
+        let t = subst (EndedBy room P k (R .steps) m) e (R .has-ended) in
+        let F : FullAt m (rowNumbered P i .stmt) = step-full m room P (t .1) in
+        let fits = within (R .steps) (omega arith) .fits in
+        omega (
+          arith,
+          (rw (block-goes P i (F .goes)) at fits),
+          frames-some (rowNumbered P i) (block P (suc i)) frames (F .method) (F .is-call),
+          method-frames (F .method),
+          F .full,
+          l,
+        )

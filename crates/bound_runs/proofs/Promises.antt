@@ -7,7 +7,7 @@ use Prim.Native.Nat.{ℕ, zero, suc, _≤_}
 use native.Mathlib.Omega.{arith}
 use lib.Dec.{T, leb, leb→le}
 use lib.ListN.{length, getD, drop}
-use Rattle.rules.specs.Limits.{most-bound}
+use Rattle.rules.specs.Limits.{most-bound, most-frames}
 use Rattle.rules.specs.Answers.{Verdict, Ending, accepted, refused, then, finished, stepsTaken, stopped, endingNumber, stopNumber, boundPassed}
 use Rattle.rules.specs.Answers.{heapFull, framesFull, permissionMissing, nullFollowed, formulaFalse, overflow}
 use Rattle.rules.specs.Syntax.{Row, Method, Program, noMethod, methodNumbered}
@@ -21,10 +21,11 @@ use Rattle.rules.proofs.Tries.{then-accepted, accepted-inj, refused-accepted, r
 use Rattle.rules.proofs.Counting.{run-listed}
 use Rattle.nesting.specs.Nests.{rowsNest}
 use Rattle.nesting.proofs.ReadOrder.{BodiesNest, read-blocks}
-use Rattle.bound_runs.specs.Claims.{NeverPassed, EnoughSteps, FramesEnough}
+use Rattle.bound_runs.specs.Claims.{NeverPassed, EnoughSteps, FramesEnough, NeverFull}
 use Rattle.bound_runs.proofs.InBlock.{nests-more}
 use Rattle.bound_runs.proofs.Moves.{Nested}
-use Rattle.bound_runs.proofs.Left.{count-within, never-taken, frames-within}
+use Rattle.bound_runs.proofs.Left.{count-within, never-taken, never-full, frames-within}
+use Rattle.bound_runs.proofs.Routes.{frames-below}
 
 -- THE BLOCKS OF A TEXT
 methods-nested : (P : Program) (Ms : List Method) → BodiesNest (P .rows) Ms → (n : ℕ) → Nested P (getD Ms n (noMethod P) .first)
@@ -96,6 +97,17 @@ only-21 (stopped nullFollowed) q = absurd (omega arith)
 only-21 (stopped formulaFalse) q = absurd (omega arith)
 only-21 (stopped overflow) q = absurd (omega arith)
 
+only-23 : (e : Ending) → endingNumber e ≡ 23 → e ≡ stopped framesFull
+unfolding endingNumber stopNumber
+only-23 finished q = absurd (omega arith)
+only-23 stepsTaken q = absurd (omega arith)
+only-23 (stopped heapFull) q = absurd (omega arith)
+only-23 (stopped framesFull) q = refl
+only-23 (stopped permissionMissing) q = absurd (omega arith)
+only-23 (stopped nullFollowed) q = absurd (omega arith)
+only-23 (stopped formulaFalse) q = absurd (omega arith)
+only-23 (stopped overflow) q = absurd (omega arith)
+
 -- ITS RUNS
 module _ (t : List ℕ) (e : boundText t .number ≡ 0) where
   abbrev P : Program
@@ -124,6 +136,12 @@ module _ (t : List ℕ) (e : boundText t .number ≡ 0) where
       never-taken P (given t e .none-repeats) nested main-nested wholeHeap (run-listed wholeHeap P k .0)
       (rw (given t e .is-bound) at l) (only-21 _ (rw (answers k) at q))
 
+  room-left : boundText t .frames ≤ most-frames → (k : ℕ) → runText t k .number ≡ 23 → ⊥
+  unfolding outcomeResult outcome ends
+  room-left l k q =
+      never-full P (given t e .none-repeats) nested main-nested wholeHeap (run-listed wholeHeap P k .0)
+      (rw (given t e .is-frames) at l) (only-23 _ (rw (answers k) at q))
+
   open-frames : (k : ℕ) (R : Run wholeHeap P k) (i : ℕ) → i ≤ R .steps → suc (depth (R .state i)) ≤ boundText t .frames
   open-frames k R i l =
       rw (given t e .is-frames) (frames-within P (given t e .none-repeats) nested main-nested wholeHeap R i l)
@@ -145,3 +163,12 @@ frames-enough t e items r k =
 -- a bound that is given is at most the greatest
 pub bound-small : (t : List ℕ) → boundText t .number ≡ 0 → boundText t .bound ≤ most-bound
 bound-small t e = given t e .fits
+
+-- where they fit, 23 does not come
+pub frames-fit : NeverFull
+frames-fit t e l k q = room-left t e l k q
+
+-- and each frame on a route has a line of the bound
+pub frames-small : (t : List ℕ) → boundText t .number ≡ 0 → boundText t .frames ≤ most-bound
+frames-small t e =
+    let g = given t e in omega (arith, g .is-frames, g .is-bound, g .fits, frames-below (program (g .items)))

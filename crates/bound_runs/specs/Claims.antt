@@ -2,6 +2,7 @@
 use mathlib.Core.Path.{_≡_}
 use mathlib.Core.List.{List}
 use Prim.Native.Nat.{ℕ, suc, _≤_}
+use Rattle.rules.specs.Limits.{most-frames}
 use Rattle.rules.specs.Answers.{accepted}
 use Rattle.rules.specs.Items.{Item}
 use Rattle.rules.specs.Reading.{readText, program}
@@ -21,3 +22,7 @@ abbrev pub FramesEnough : Type 0
 FramesEnough =
     (t : List ℕ) → boundText t .number ≡ 0 → (items : List Item) → readText t ≡ accepted items → (k : ℕ)
     (R : Run wholeHeap (program items) k) (i : ℕ) → i ≤ R .steps → suc (depth (R .state i)) ≤ boundText t .frames
+
+-- so where they are at most 64, which document 01 allows, no run stops with 23, "frames full"
+abbrev pub NeverFull : Type 0
+NeverFull = (t : List ℕ) → boundText t .number ≡ 0 → boundText t .frames ≤ most-frames → (k : ℕ) → runText t k .number ≡ 23 → ⊥

@@ -1,16 +1,16 @@
 -- Demand 3 beyond the one run that a call answers with: of every run of a text, and from any heap of which main's frame holds a part.
 use mathlib.Core.Path.{_≡_}
 use mathlib.Core.List.{List, []}
-use Prim.Native.Nat.{ℕ, _≤_}
+use Prim.Native.Nat.{ℕ, suc, _≤_, _<_}
 use lib.ListN.{length}
 use Rattle.rules.specs.Answers.{accepted}
 use Rattle.rules.specs.Items.{Item}
 use Rattle.rules.specs.Reading.{readText, program}
 use Rattle.rules.specs.Rules.{checkProgram}
-use Rattle.rules.specs.Syntax.{Program}
-use Rattle.rules.specs.Machine.{Config, Location, Room, halves, run, start}
+use Rattle.rules.specs.Syntax.{Program, simple, call}
+use Rattle.rules.specs.Machine.{Config, Location, Room, on, step, statementOf, halves, valueAt, run, start}
 use Rattle.rules.specs.Calls.{wholeHeap}
-use Rattle.rules.specs.Runs.{Run, FrameKept, HalvesKept, ChainsEnd, ChainsHanded}
+use Rattle.rules.specs.Runs.{depth, handedOver, TwoHalves, Run, FrameKept, HalvesKept, ChainsEnd, ChainsHanded}
 use Rattle.soundness.specs.WellFormed.{WellFormed}
 use Rattle.soundness.specs.Endings.{EndsUnstuck}
 
@@ -53,3 +53,25 @@ NeverStuckFrom =
 
 abbrev pub StartStarts : Type 0
 StartStarts = (P : Program) → StartsMain P (start P)
+
+-- n steps from the state m on: the state after each
+pub record StepsFrom (room : Room) (P : Program) (m : Config) (n : ℕ) : Type 0 where
+  pub state : ℕ → Config
+  pub first : state 0 ≡ m
+  pub next : (i : ℕ) → i < n → step room P (state i) ≡ on (state (suc i))
+
+-- the second half, from any state whatever: step i + 1 is a `call`, and the states after it have it open up to the j-th. Then each field of
+-- a card that is in the heap at the `call` step, whether a step made the card or it was there at the start, has its value from before that
+-- step, unless it was handed over whole. `FrameKept` is this of the runs from `start`.
+abbrev pub CallsKeepFrom : Type 0
+CallsKeepFrom =
+    (room : Room) (P : Program) (m : Config) (n : ℕ) (S : StepsFrom room P m n) (i x y q z : ℕ) → i < n →
+    statementOf P (S .state i .frame) ≡ simple (call x y q z) → (j : ℕ) → i < j → j ≤ n →
+    ((l : ℕ) → i < l → l < j → depth (S .state i) < depth (S .state l)) → (o f : ℕ) → o ≤ length (S .state i .heap) →
+    halves (handedOver P (S .state i) y q z) (record { object = o; field = f }) < 2 →
+    valueAt (S .state j .heap) o f ≡ valueAt (S .state i .heap) o f
+
+-- and from a start as main's all frames together hold at most two halves of a location, after each step
+abbrev pub HalvesFrom : Type 0
+HalvesFrom =
+    (room : Room) (P : Program) (m : Config) → StartsMain P m → (n : ℕ) (S : StepsFrom room P m n) (i : ℕ) → i ≤ n → TwoHalves (S .state i)

@@ -1,4 +1,4 @@
--- Demand 3 of document 01, proved for what `station::check`, `station::run`, `station::trial` and `station::lean` return: by their contracts they
+-- Demand 3 of document 01 and W13, proved for what `station::check`, `station::run`, `station::trial` and `station::lean` return: by their contracts they
 -- return, and leave in the areas, what `checkCall`, `runCall`, `trialCall` and `leanCall` say. The statements are those of specs/Demand.
 use mathlib.Core.Path.{_≡_, sym, ap, subst, _∙_}
 use mathlib.Core.List.{List}
@@ -12,9 +12,10 @@ use Rattle.rules.specs.Calls.{Result, checkText, refusedResult, runText, trialT
 use Rattle.rules.specs.Areas.{packed, cleared, wordBytes, wordsBytes, resultBytes, checkCall, ranCall}
 use Rattle.rules.specs.Demand.{NotStuck, Claim, IsRefusal, RunRefuses}
 use Rattle.soundness.proofs.LeanRuns.{lean-is-run}
+use Rattle.unseen.proofs.Handed.{same-answered}
 use Rattle.soundness.proofs.Demand3.{same-from-both, calls-keep-frame, one-claim, every-run}
 use Rattle.widths.proofs.Returned.{number-packed}
-use Rattle.station.specs.Demand.{Lent, runOver, trialOver, Returns, ReturnsClaim, OneClaimReturned, ReturnsRefusal, RunReturnsNeverStuck, EveryRunReturned, SameReturned, TrialReturned, LeanReturned}
+use Rattle.station.specs.Demand.{Lent, runOver, trialOver, Returns, ReturnsClaim, OneClaimReturned, ReturnsRefusal, RunReturnsNeverStuck, EveryRunReturned, SameReturned, TrialReturned, UnseenReturned, LeanReturned}
 use Rattle.station.proofs.Texts.{run-fits}
 
 -- WHAT THE CALLS RETURN ON AREAS OF THE RIGHT LENGTH
@@ -93,6 +94,17 @@ same-returned t area n e w k b =
 
 pub trial-returned : TrialReturned
 trial-returned t items e l = record { frame = calls-keep-frame t items e (l .steps); returns = trial-returns t l }
+
+-- WHAT ISN'T HANDED OVER ISN'T SEEN
+pub unseen-returned : UnseenReturned
+unseen-returned t items e l R i C m A c h =
+    let (x, y) = same-answered t items e (l .steps) R i C m A c h in
+    record {
+      trial = subst (Returns (trialOver t l)) (sym x) (trial-returns t l);
+      run =
+          λ area n z.
+          subst (Returns (runOver t l)) (sym (y (ap (λ (p : ℕ × ℕ). p .0) (accepted-text t area n z)))) (run-returns t l);
+    }
 
 -- LEAN
 pub lean-returned : LeanReturned

@@ -1,17 +1,21 @@
--- Demand 3 of document 01 for what the calls return, as statements. proofs/Demand3 proves them.
+-- Demand 3 of document 01, and W13, for what the calls return, as statements. proofs/Demand3 proves them.
 use mathlib.Core.Path.{_≡_}
 use mathlib.Core.List.{List}
 use mathlib.Core.Logic.{_⊎_}
-use Prim.Native.Nat.{ℕ, _<_}
+use Prim.Native.Nat.{ℕ, suc, _-_, _<_}
 use lib.ListN.{length}
 use Rattle.rules.specs.Limits.{work-bytes, results-bytes}
 use Rattle.rules.specs.Answers.{accepted}
 use Rattle.rules.specs.Items.{Item}
-use Rattle.rules.specs.Reading.{readText}
-use Rattle.rules.specs.Calls.{Result, runText, trialText}
+use Rattle.rules.specs.Reading.{readText, program}
+use Rattle.rules.specs.Machine.{Config, run}
+use Rattle.rules.specs.Calls.{Result, runText, trialText, wholeHeap, outcomeResult}
 use Rattle.rules.specs.Areas.{packed, cleared, resultBytes, checkCall, Ran, runCall, trialCall, leanCall, numberIn}
 use Rattle.rules.specs.Syntax.{words}
+use Rattle.rules.specs.Runs.{Run, CallStep}
 use Rattle.rules.specs.Demand.{NotStuck, KeepsFrame, Claim, IsRefusal}
+use Rattle.unseen.specs.Unseen.{Agree, methodPart}
+use Rattle.unseen.specs.Handed.{Halts}
 
 -- areas of the right length, whatever they hold, and a number of steps
 pub record Lent : Type 0 where
@@ -77,6 +81,26 @@ pub record TrialKeepsFrame (t : List ℕ) (items : List Item) (l : Lent) : Type 
 
 abbrev pub TrialReturned : Type 0
 TrialReturned = (t : List ℕ) (items : List Item) → readText t ≡ accepted items → (l : Lent) → TrialKeepsFrame t items l
+
+-- WHAT ISN'T HANDED OVER ISN'T SEEN
+
+-- the answer of a run that goes on from m with what is left of the k allowed steps, n of them taken
+abbrev pub answerFrom : List Item → ℕ → ℕ → Config → Result
+answerFrom items k n m = outcomeResult (run wholeHeap (program items) (k - n) n m)
+
+-- W13: "both shall take the same lines, with equal results, an equal count of steps and the same stop. This covers trial as well as run". The
+-- text's run R does a `call` as its step i + 1, and ends before that call does. From each state that agrees with the one after that step but
+-- for the values of fields outside the called frame's permissions, it would have ended so that trial returns the same number and line and
+-- leaves the same bytes; and run, if check returns 0 for the text, whatever area it is lent.
+pub record ReturnsUnseen (t : List ℕ) (items : List Item) (l : Lent) (n : ℕ) (m : Config) : Type 0 where
+  pub trial : Returns (trialOver t l) (answerFrom items (l .steps) n m)
+  pub run : (area : List ℕ) → length area ≡ work-bytes → checkCall t area .returned ≡ 0 → Returns (runOver t l) (answerFrom items (l .steps) n m)
+
+abbrev pub UnseenReturned : Type 0
+UnseenReturned =
+    (t : List ℕ) (items : List Item) → readText t ≡ accepted items → (l : Lent) (R : Run wholeHeap (program items) (l .steps)) (i : ℕ) →
+    CallStep wholeHeap (program items) R i → (m : Config) → Agree (R .state (suc i)) m → m .callers ≡ R .state (suc i) .callers →
+    Halts (methodPart wholeHeap (program items) (l .steps - suc i) (R .state (suc i)) .leaving) → ReturnsUnseen t items l (suc i) m
 
 -- LEAN
 

@@ -2,25 +2,36 @@
 use mathlib.Core.Path.{_≡_}
 use mathlib.Core.List.{List, _++_}
 use mathlib.Core.Logic.{_⊎_}
-use Prim.Native.Nat.{ℕ, _≤_}
+use Prim.Native.Nat.{ℕ, suc, _≤_}
 use lib.ListN.{length, take, replicate}
-use Rattle.rules.specs.Limits.{most-bytes, work-bytes, bounds-bytes, places-bytes}
+use Rattle.rules.specs.Limits.{most-bytes, most-frames, work-bytes, bounds-bytes, places-bytes}
+use Rattle.rules.specs.Answers.{accepted}
 use Rattle.rules.specs.Text.{lines}
 use Rattle.rules.specs.Grammar.{Line}
 use Rattle.rules.specs.Items.{Item}
+use Rattle.rules.specs.Reading.{readText, program}
 use Rattle.rules.specs.Fill.{accessesAt, atPlaces, withAtoms}
+use Rattle.rules.specs.Calls.{wholeHeap}
+use Rattle.rules.specs.Runs.{Run, depth}
 use Rattle.rules.specs.Areas.{checkCall, boundCall, fillCall, numberIn, wordIn}
 use Rattle.filling.specs.Claims.{joined, OneStar, AcceptedFirst}
 use Rattle.station.specs.Demand.{Lent, runOver}
 
 -- A BOUND
 
--- b: the bounds area that bound left, in which the first word is the bound; in the results area it is the count of steps
+-- b: the bounds area that bound left, "main's bound and the most frames on a route of calls, main's counted", a word each; in the results
+-- area the first word is the count of steps
 pub record KeptTo (t b : List ℕ) (l : Lent) : Type 0 where
   -- "no run's count passes it"
   pub never-passed : wordIn (runOver t l .results) 0 ≤ wordIn b 0
   -- "a run allowed that many steps never answers 21"
   pub enough : wordIn b 0 ≤ l .steps → numberIn (runOver t l .returned) ≡ 21 → ⊥
+  -- "the most frames": after no step of the run are more open
+  pub frames-enough :
+      (items : List Item) → readText t ≡ accepted items → (R : Run wholeHeap (program items) (l .steps)) (i : ℕ) → i ≤ R .steps →
+      suc (depth (R .state i)) ≤ wordIn b 4
+  -- so where they are at most 64, which document 01 allows, run never returns 23, "frames full"
+  pub frames-fit : wordIn b 4 ≤ most-frames → numberIn (runOver t l .returned) ≡ 23 → ⊥
 
 -- "Where it gives a bound": whatever areas bound was lent, and whatever run is
 abbrev pub BoundKept : Type 0

@@ -6,7 +6,7 @@ use std::collections::BTreeSet;
 use std::fs;
 
 /// The statements that docs/ASSURANCE.md makes, and what the contracts of the calls and of the programs are equations with.
-pub const CLAIMS: [&str; 15] = [
+pub const CLAIMS: [&str; 16] = [
     "crates/bound_runs/specs/Claims.antt",
     "crates/filling/specs/Claims.antt",
     "crates/joint/specs/Claims.antt",
@@ -15,6 +15,7 @@ pub const CLAIMS: [&str; 15] = [
     "crates/rules/specs/Demand.antt",
     "crates/rules/specs/Printed.antt",
     "crates/rules/specs/Refusals.antt",
+    "crates/soundness/specs/AnyRun.antt",
     "crates/station/specs/Counts.antt",
     "crates/small_list/specs/Claims.antt",
     "crates/station/specs/Demand.antt",
