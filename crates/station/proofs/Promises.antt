@@ -11,16 +11,12 @@ use Rattle.rules.specs.Calls.{runText, boundText}
 use Rattle.rules.specs.Areas.{packed, wordBytes, wordsBytes, resultBytes, boundBytes, boundCall, numberIn}
 use Rattle.tables.specs.Decode.{wordAt}
 use Rattle.bound_runs.proofs.Promises.{never-passed, enough-steps, frames-enough, frames-fit, bound-small, frames-small}
-use Rattle.widths.proofs.Words.{word-first}
+use Rattle.widths.proofs.Words.{word-first, word-on}
 use Rattle.widths.proofs.Returned.{number-packed}
 use Rattle.station.specs.Demand.{Lent, runOver}
 use Rattle.station.specs.Promises.{KeptTo, BoundKept}
 use Rattle.station.proofs.Texts.{run-fits}
 use Rattle.station.proofs.Demand3.{run-returns}
-
-word-second : (v : ℕ) (rest : List ℕ) → wordAt (wordBytes v ++ rest) 4 ≡ wordAt rest 0
-unfolding wordBytes
-word-second v rest = refl
 
 module _ (t work bounds : List ℕ) (m : length work ≡ work-bytes) (n : length bounds ≡ bounds-bytes) where
   returned : boundCall t work bounds .returned ≡ packed (boundText t .number) (boundText t .line)
@@ -46,7 +42,7 @@ module _ (t work bounds : List ℕ) (m : length work ≡ work-bytes) (n : length
     unfolding boundBytes wordsBytes
     frames-word =
         ap (λ a. wordAt a 4) written
-        ∙ (word-second (boundText t .bound) _ ∙ word-first (boundText t .frames) _ (omega (arith, frames-small t given)))
+        ∙ (word-on (boundText t .bound) _ 4 0 refl ∙ word-first (boundText t .frames) _ (omega (arith, frames-small t given)))
 
     module _ (l : Lent) where
       run-word : wordAt (runOver t l .results) 0 ≡ runText t (l .steps) .steps
