@@ -13,6 +13,7 @@ mod places;
 mod refusals;
 mod roles;
 mod symbols;
+mod typing;
 
 use crate::session::Status;
 use document::{Client, Document, REQUESTS};
