@@ -162,12 +162,12 @@ fn zsh() -> String {
             let about = described(option.about);
             let _ = write!(out, " '--{}[{about}]{value}'", option.name);
         }
-        let offer = zsh_offer(&operands(spec.command));
-        let _ = writeln!(
-            out,
-            " '*:{}:{offer}' ;;",
-            spec.operands.to_lowercase().replace(':', "\\:")
-        );
+        let offer = operands(spec.command);
+        if !matches!(offer, Offer::Nothing) {
+            let what = spec.operands.to_lowercase().replace(':', "\\:");
+            let _ = write!(out, " '*:{what}:{}'", zsh_offer(&offer));
+        }
+        out.push_str(" ;;\n");
     }
     out.push_str("esac\n");
     out

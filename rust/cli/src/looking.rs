@@ -1,6 +1,6 @@
 //! The commands that look into a text: trace, known and bound.
 
-use crate::files::complain;
+use crate::files::{complain, is_folder};
 use crate::session::{status, Session, Status, Summary};
 use crate::table::Flag;
 use explain::known::{self, Known};
@@ -90,9 +90,15 @@ pub fn known(session: &mut Session) -> Status {
     let mut tally = session.tally(Summary::new("accepted", "refused"));
     for word in session.scripts() {
         let (name, line) = file_and_line(&word);
-        let status = match session.text(&name) {
-            Some(text) => known_one(session, &name, &text, line),
-            None => Status::Failed,
+        let status = if line.is_some() && is_folder(&name) {
+            let shown = file_name(&name);
+            complain(&format!("{shown} is a folder; a line is one of a file"));
+            Status::Failed
+        } else {
+            match session.text(&name) {
+                Some(text) => known_one(session, &name, &text, line),
+                None => Status::Failed,
+            }
         };
         tally.note(status);
     }

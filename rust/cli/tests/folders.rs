@@ -168,6 +168,11 @@ fn lines_and_stars() {
         status == 1 && out.contains("a.script:3: let a 7\n"),
         "{out}"
     );
+    let (_, error, status) = said(&["known", &format!("{folder}:3")], b"");
+    assert!(
+        status == 2 && error.contains("is a folder; a line is one of a file"),
+        "{error}"
+    );
     std::fs::write(format!("{folder}/in/b.script"), STAR).expect("a file");
     std::fs::write(format!("{folder}/a.script"), STAR).expect("a file");
     let (out, _, status) = said(&["fill", "--write", &folder], b"");

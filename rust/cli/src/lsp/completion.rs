@@ -4,7 +4,8 @@ use super::outline::{Method, Name, Outline};
 use super::places::{byte, column, line_of, range};
 use super::typing::Typing;
 use explain::Json;
-use model::form::{line_or_kind, next_words};
+use model::form::{self, line_or_kind, next_words};
+use model::number;
 use model::text::Reader;
 
 /// The kinds of things that are offered, as the protocol numbers them.
@@ -26,6 +27,19 @@ pub struct Item {
 }
 
 impl Item {
+    /// The item, put in the place of what is typed.
+    fn json(self, typed: &Json) -> Json {
+        let edit = Json::object()
+            .with("range", typed.clone())
+            .with("newText", self.label.as_str());
+        let detail = Some(self.detail).filter(|detail| !detail.is_empty());
+        Json::object()
+            .with("label", self.label)
+            .with("kind", self.kind as u32)
+            .with_some("detail", detail)
+            .with("textEdit", edit)
+    }
+
     pub fn word(word: &str) -> Item {
         Item {
             label: word.to_string(),
@@ -91,13 +105,26 @@ fn reader_before(text: &str, line: u32) -> Reader {
     reader
 }
 
-/// What may stand at a place.
+/// Does the line get number 6, 7 or 9, when it is another?
+fn refused_by_name(text: &str, line: u32, other: &str) -> bool {
+    let mut lines: Vec<&str> = text.split('\n').collect();
+    match lines.get_mut(line as usize) {
+        Some(old) if form::fault(other.as_bytes()).is_none() => *old = other,
+        _ => return false,
+    }
+    let (refused, at) = model::check(lines.join("\n").as_bytes());
+    at == line + 1 && matches!(refused, number::NAME | number::TYPE | number::ASSIGNED)
+}
+
+/// What may stand at a place. The whole field is replaced; where others follow it,
+/// the line passes with them.
 pub fn completion(text: &str, outline: &Outline, line: u32, at: usize) -> Json {
     let shown = line_of(text, line);
-    let before = &shown[..byte(shown, at)];
+    let (before, after) = shown.split_at(byte(shown, at));
+    let rest = after.find('\t').map_or("", |end| &after[end..]);
     let fields: Vec<&str> = before.split('\t').collect();
     let start = before.len() - fields.last().map_or(0, |typed| typed.len());
-    let items = match fields.len() {
+    let mut items = match fields.len() {
         1 => {
             let words = next_words(&reader_before(text, line));
             words.into_iter().map(Item::word).collect()
@@ -112,17 +139,11 @@ pub fn completion(text: &str, outline: &Outline, line: u32, at: usize) -> Json {
             typing.items()
         }
     };
-    let typed = range(line, column(before, start), column(before, before.len()));
-    let items = items.into_iter().map(|item| {
-        let edit = Json::object()
-            .with("range", typed.clone())
-            .with("newText", item.label.as_str());
-        let detail = Some(item.detail).filter(|detail| !detail.is_empty());
-        Json::object()
-            .with("label", item.label)
-            .with("kind", item.kind as u32)
-            .with_some("detail", detail)
-            .with("textEdit", edit)
-    });
-    Json::List(items.collect())
+    if !rest.is_empty() {
+        let with = |item: &Item| format!("{}{}{rest}", &before[..start], item.label);
+        items.retain(|item| !refused_by_name(text, line, &with(item)));
+    }
+    let end = shown.len() - rest.len();
+    let typed = range(line, column(shown, start), column(shown, end));
+    Json::List(items.into_iter().map(|item| item.json(&typed)).collect())
 }

@@ -1,7 +1,7 @@
 //! Every name of a text with what it names: going to a declaration, references and
 //! renaming.
 
-use super::outline::Outline;
+use super::outline::{Outline, NAMED_BYTES};
 use super::places::{byte, line_of, location, range_of};
 use super::roles::{role, Role};
 use explain::Json;
@@ -94,6 +94,9 @@ fn named(outline: &Outline, line: u32, role: &Role, field: &str) -> Vec<(usize, 
 /// Every name of the text that has the form of one, in order.
 pub fn occurrences(text: &str, outline: &Outline) -> Vec<Occurrence> {
     let mut found = Vec::new();
+    if text.len() > NAMED_BYTES {
+        return found;
+    }
     for (at, line) in text.split('\n').enumerate() {
         let fields: Vec<&str> = line.split('\t').collect();
         let starts = form::fields(line.as_bytes());

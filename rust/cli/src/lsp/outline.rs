@@ -5,6 +5,9 @@
 use explain::script::shown;
 use model::text::{line, Line};
 
+/// Of a longer text, which is far from a script, nothing is named.
+pub const NAMED_BYTES: usize = 2 * nuyardi::limits::TEXT_BYTES;
+
 /// How a block has a name.
 #[derive(Clone, Copy, Debug, PartialEq, Eq)]
 pub enum Own {
@@ -85,6 +88,9 @@ impl Block {
 impl Outline {
     pub fn of(text: &[u8]) -> Outline {
         let mut outline = Outline::default();
+        if text.len() > NAMED_BYTES {
+            return outline;
+        }
         let mut last = 0;
         for bytes in text.split_inclusive(|&byte| byte == b'\n') {
             last += 1;

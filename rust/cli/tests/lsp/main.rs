@@ -273,6 +273,10 @@ fn hostile_texts() {
         .map(str::to_string)
         .to_vec();
     texts.extend((0..40).map(|seed| String::from_utf8_lossy(&generator::text(seed)).into_owned()));
+    // Far more than a script may have: nothing that grows with the square of it.
+    texts.push("class\tA\nfield\tA\tf\nmain\nnew\tx\tA\n".repeat(40_000));
+    texts.push("\t".repeat(1_000_000));
+    texts.push("class\tA\nfield\tA\tf\n".repeat(3_000));
     for text in texts {
         client.open(&text);
         for line in [0, 1, 7, u32::MAX] {

@@ -96,6 +96,40 @@ fn names_that_pass() {
     assert!(kept > 3_000 && tried > 8_000, "{kept} {tried}");
 }
 
+/// In a whole line, where other fields follow: what stands there is offered, and the
+/// line passes with each other name.
+#[test]
+fn names_before_others() {
+    let (mut kept, mut tried) = (0, 0);
+    for text in readable() {
+        for (at, line) in text.lines().enumerate() {
+            let fields: Vec<&str> = line.split('\t').collect();
+            for place in 1..fields.len() {
+                let column = fields[..place].iter().map(|field| field.len() + 1).sum();
+                let words = labels(&text, at, column);
+                let number = model::text::number(fields[place].as_bytes()).is_some();
+                // Nothing is offered for a name that the line declares.
+                if !words.is_empty() && !number {
+                    assert!(
+                        words.contains(&fields[place].to_string()),
+                        "{line}: {words:?}"
+                    );
+                    kept += 1;
+                }
+                for word in words.iter().filter(|word| *word != "*") {
+                    let mut other = fields.clone();
+                    other[place] = word;
+                    let answer = model::check(with_line(&text, at, &other.join("\t")).as_bytes());
+                    let passes = !NAMES.contains(&answer.0) || answer.1 != at as u32 + 1;
+                    assert!(passes, "{line}: {other:?} gets {answer:?}");
+                    tried += 1;
+                }
+            }
+        }
+    }
+    assert!(kept > 3_000 && tried > 8_000, "{kept} {tried}");
+}
+
 /// What is not offered would be refused: with each name of the script that is left
 /// out at the last field the line gets 4, 6, 7 or 9.
 #[test]
