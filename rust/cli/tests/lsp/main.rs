@@ -276,7 +276,7 @@ fn hostile_texts() {
     // Far more than a script may have: nothing that grows with the square of it.
     texts.push("class\tA\nfield\tA\tf\nmain\nnew\tx\tA\n".repeat(40_000));
     texts.push("\t".repeat(1_000_000));
-    texts.push("class\tA\nfield\tA\tf\n".repeat(3_000));
+    texts.push("class\tA\nfield\tA\tf\n".repeat(1_500));
     for text in texts {
         client.open(&text);
         for line in [0, 1, 7, u32::MAX] {
