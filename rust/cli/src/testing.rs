@@ -119,17 +119,23 @@ fn write_one(session: &mut Session, name: &OsStr, text: &[u8]) -> Status {
     let steps = session.words.steps;
     let lines = answers(&mut session.library, text, steps);
     let text: String = lines.iter().map(|line| format!("{line}\n")).collect();
-    if let Err(error) = write::write(&file, text.as_bytes()) {
+    let same = std::fs::read(&file).is_ok_and(|old| old == text.as_bytes());
+    let written = match same {
+        true => Ok(()),
+        false => write::write(&file, text.as_bytes()),
+    };
+    if let Err(error) = written {
         session.unread(file.as_os_str(), &Unread::System(error));
         return Status::Failed;
     }
     let shown = file_name(file.as_os_str());
-    match session.json() {
-        true => {
-            let object = Json::object().with("file", shown).with("call", "test");
-            session.print_json(&object.with("output", text));
-        }
-        false => session.print(&format!("{shown}: written\n")),
+    if session.json() {
+        let object = Json::object().with("file", shown).with("call", "test");
+        session.print_json(&object.with("changed", !same).with("output", text));
+    } else if same {
+        session.print(&format!("{shown}: not changed\n"));
+    } else {
+        session.print(&format!("{shown}: written\n"));
     }
     Status::Done
 }

@@ -72,6 +72,8 @@ fn written_and_tested() {
     assert!(error.contains("`station test --write`"), "{error}");
     let (out, _, status) = said(&["test", "--write", &script], b"");
     assert_eq!((out, status), (format!("{expected}: written\n"), 0));
+    let (out, _, status) = said(&["test", "--write", &script], b"");
+    assert_eq!((out, status), (format!("{expected}: not changed\n"), 0));
     let text = std::fs::read_to_string(&expected).expect("the file");
     assert_eq!(text, "check\t0\t0\nrun\t0\t5\t3\nvar\ta\t7\n");
     let (out, error, status) = said(&["test", &script], b"");

@@ -183,3 +183,79 @@ fn random_bytes() {
         }
     }
 }
+
+/// Parameters of any kind: each request gets one reply, with its id.
+#[test]
+fn random_params() {
+    let parts = [
+        "null",
+        "7",
+        "-1",
+        "1e9",
+        "\"a\"",
+        "\"\"",
+        "[]",
+        "{}",
+        "true",
+        r#"{"uri":"a"}"#,
+        r#"{"uri":7}"#,
+        r#"{"uri":"b","text":"main\n"}"#,
+        r#"{"line":1,"character":4}"#,
+        r#"{"line":0,"character":-4}"#,
+        r#"{"line":99,"character":99}"#,
+        r#"{"start":{"line":0,"character":0},"end":{"line":9,"character":9}}"#,
+        r#"{"only":["quickfix"]}"#,
+        r#"{"includeDeclaration":false}"#,
+        "\"station.explain\"",
+        "[12]",
+    ];
+    let names = [
+        "textDocument",
+        "position",
+        "range",
+        "context",
+        "newName",
+        "command",
+        "arguments",
+        "contentChanges",
+    ];
+    let open = r#"{"jsonrpc":"2.0","method":"textDocument/didOpen","params":{"textDocument":{"uri":"a","text":"main\nvar\tint\ta\nlet\tb\t7\nend\n"}}}"#;
+    let others = [
+        "workspace/executeCommand",
+        "textDocument/didChange",
+        "textDocument/didOpen",
+        "initialize",
+    ];
+    let methods: Vec<&str> = REQUESTS
+        .iter()
+        .map(|(name, _)| *name)
+        .chain(others)
+        .collect();
+    let mut rng = Rng::new(55);
+    let (mut input, mut results) = (framed(&[INITIALIZE, open]), 0);
+    const REQUESTED: i64 = 6_000;
+    for id in 0..REQUESTED {
+        let fields: Vec<String> = (0..rng.below(6))
+            .map(|_| format!("\"{}\":{}", rng.pick(&names), rng.pick(&parts)))
+            .collect();
+        // A place after the others: it counts where they have none.
+        let place = String::from(r#""position":{"line":1,"character":9}"#);
+        let place = Some(place).filter(|_| rng.chance(50));
+        let fields: Vec<String> = fields.into_iter().chain(place).collect();
+        let (method, fields) = (rng.pick(&methods), fields.join(","));
+        let body = format!(
+            r#"{{"jsonrpc":"2.0","id":{},"method":"{method}","params":{{"textDocument":{{"uri":"a"}},{fields}}}}}"#,
+            id + 100
+        );
+        let body = body.replace(",}", "}");
+        input.extend(framed(&[&body]));
+    }
+    let codes = codes(&input);
+    assert_eq!(codes.len() as i64, REQUESTED + 1);
+    for (at, (id, code)) in codes[1..].iter().enumerate() {
+        assert_eq!(*id, Some(at as i64 + 100));
+        results += usize::from(code.is_none());
+        assert_ne!(*code, Some(Code::InternalError as i64));
+    }
+    assert!(results > 1_500, "{results}");
+}
