@@ -23,9 +23,9 @@
      1 font-lock-keyword-face)
     (,(concat "\t\\(" (regexp-opt station-mode-atoms) "\\)\t") 1 font-lock-builtin-face)
     ("^requires\t\\(\\*\\)$" 1 font-lock-builtin-face)
-    ("\t\\(int\\)\\(?:\t\\|$\\)" 1 font-lock-type-face)
-    ("\t\\(null\\|this\\|result\\)\\(?:[.\t]\\|$\\)" 1 font-lock-constant-face)
-    ("\t\\(0\\|-?[1-9][0-9]*\\)\\(?:\t\\|$\\)" 1 font-lock-constant-face)
+    ("\t\\(int\\)\\>" 1 font-lock-type-face)
+    ("\t\\(null\\|this\\|result\\)\\>" 1 font-lock-constant-face)
+    ("\t\\(0\\|-?[1-9][0-9]*\\)\\>" 1 font-lock-constant-face)
     ("^class\t\\([A-Za-z][A-Za-z0-9]*\\)" 1 font-lock-function-name-face)
     ("^\\(?:field\\|var\\|method\\)\t[^\t\n]*\t\\([A-Za-z][A-Za-z0-9]*\\)"
      1 font-lock-function-name-face)

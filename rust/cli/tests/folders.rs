@@ -186,3 +186,17 @@ fn lines_and_stars() {
         "{out}"
     );
 }
+
+/// A sheet of pictures is one document, whatever the files are called.
+#[test]
+fn names_on_a_sheet() {
+    let folder = folder("folders-names");
+    for name in ["<a&b>.script", "\"c\".script"] {
+        std::fs::write(folder.join(name), GOOD).expect("a file");
+    }
+    let (out, _, status) = said(&["draw", folder.to_str().expect("a name")], b"");
+    assert_eq!(status, 0);
+    assert!(out.contains("&lt;a&amp;b&gt;.script</text>"), "{out}");
+    assert!(out.contains("&quot;c&quot;.script</text>"), "{out}");
+    assert!(!out.contains("<a&b>"), "{out}");
+}

@@ -109,6 +109,37 @@ fn names_that_are_taken() {
     assert!(done > 500 && refused > 500, "{done} {refused}");
 }
 
+/// Two classes with the same names, and main with others' names: only its own are
+/// renamed.
+#[test]
+fn only_its_own() {
+    let class = |name: &str| {
+        let method = "method\tint\tm\tint\tn\nrequires\tacc\tthis\tn\nensures\tacc\tthis\tn\n\
+                      return\tn\nend\n";
+        format!("class\t{name}\nfield\tint\tn\n{method}")
+    };
+    let main = "main\nvar\tA\ta\nvar\tB\tb\nvar\tint\tn\nvar\tint\tm\nnew\ta\tA\nnew\tb\tB\n\
+                let\tn\ta.n\ncall\tm\ta\tm\tn\nlet\tn\tb.n\ncall\tm\tb\tm\tn\nend\n";
+    let text = format!("{}{}{main}", class("A"), class("B"));
+    assert!(nuyardi::check(text.as_bytes()).is_ok());
+    let outline = Outline::of(text.as_bytes());
+    let lines_changed = |line: u32, column: usize| {
+        let edits = rename(&text, "a", &outline, (line, column), "Q9").expect("a rename");
+        let new = applied(&text, &edits, "Q9");
+        let both = text.lines().zip(new.lines()).enumerate();
+        let changed = both.filter(|(_, (old, new))| old != new);
+        changed.map(|(at, _)| at + 1).collect::<Vec<_>>()
+    };
+    // The field and the method of A, its parameter, the field of B, main's variable.
+    assert_eq!(lines_changed(1, 10), [2, 4, 5, 22]);
+    assert_eq!(lines_changed(2, 11), [3, 23]);
+    assert_eq!(lines_changed(2, 17), [3, 6]);
+    assert_eq!(lines_changed(8, 10), [9, 11, 12, 24]);
+    assert_eq!(lines_changed(17, 8), [18, 22, 23, 24, 25]);
+    // A class of its type names.
+    assert_eq!(lines_changed(0, 6), [1, 16, 20]);
+}
+
 /// Why a name is refused is said.
 #[test]
 fn refused_with_a_reason() {
