@@ -12,7 +12,7 @@
 # make dist                 the source archive, with the sums of the proved library; make check-dist unpacks it and compares them
 # make mutants              how many wrong definitions the examples refuse
 #
-# STATION_LIB names a libstation.a that is already made: then nothing is proved here.
+# STATION_LIB names a libstation.a that is already made: then nothing is proved here. A relative path is one from this folder.
 
 PREFIX ?= /usr/local
 VERSION := $(shell cat VERSION)
@@ -36,6 +36,12 @@ SHARED ?= target/libnuyardi.so
 EXPLAIN ?= rust/target/release/libnuyardi_explain.so
 INSTALL ?= install
 CARGO ?= cargo
+
+# The builds run in other folders.
+ifneq ($(STATION_LIB),)
+override STATION_LIB := $(shell realpath -m -- "$(STATION_LIB)")
+export STATION_LIB
+endif
 
 .PHONY: all library explain command check install install-files install-command install-shared install-dev uninstall index soak same-bytes from-source interpreted mutants
 

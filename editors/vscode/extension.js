@@ -1,147 +1,109 @@
-// Starts `station lsp` and passes on what it says: diagnostics, hover,
-// completion, definitions and formatting. No package is needed.
+// Starts `station lsp`, and again when it ends by itself or the setting changes;
+// passes on what it says. No package is needed.
 'use strict';
 const vscode = require('vscode');
-const { spawn } = require('child_process');
+const { execFile } = require('child_process');
+const { Client } = require('./client');
+const { diagnostic, providers } = require('./providers');
 
-/** A client of the language server protocol over a process. */
-class Client {
-  constructor(program, heard) {
-    this.heard = heard;
-    this.next = 1;
-    this.waiting = new Map();
-    this.input = Buffer.alloc(0);
-    this.process = spawn(program, ['lsp']);
-    this.process.on('error', (error) => {
+/** So often a server that ends by itself is started again within so many milliseconds. */
+const RESTARTS = 4;
+const WITHIN = 180000;
+
+const program = () => vscode.workspace.getConfiguration('station').get('program', 'station');
+const ours = (document) => document.languageId === 'station';
+
+/** The server that runs now. */
+class Server {
+  constructor() {
+    this.found = vscode.languages.createDiagnosticCollection('station');
+    this.ends = [];
+  }
+
+  start() {
+    const client = new Client(program(), (message) => this.heard(message), (error) => this.ended(client, error));
+    this.client = client;
+    const symbols = { hierarchicalDocumentSymbolSupport: true };
+    client.ask('initialize', { processId: process.pid, rootUri: null, capabilities: { textDocument: { documentSymbol: symbols } } });
+    client.tell('initialized', {});
+    vscode.workspace.textDocuments.forEach((document) => this.open(document));
+  }
+
+  /** By hand, or for another program: what happened before does not count. */
+  async restart() {
+    this.ends = [];
+    this.found.clear();
+    await this.client.stop();
+    this.start();
+  }
+
+  ended(client, error) {
+    if (client !== this.client) return;
+    if (error) {
       vscode.window.showErrorMessage(`station: ${error.message}; see the setting station.program`);
-      this.close();
-    });
-    this.process.on('exit', () => this.close());
-    this.process.stdin.on('error', () => {});
-    this.process.stdout.on('data', (bytes) => this.take(bytes));
+      return;
+    }
+    const now = Date.now();
+    this.ends = [...this.ends.filter((end) => now - end < WITHIN), now];
+    if (this.ends.length <= RESTARTS) this.start();
+    else vscode.window.showErrorMessage(`station lsp ended ${this.ends.length} times; the command "Station: restart the server" starts it again`);
   }
 
-  /** The server is gone: what is asked has no answer. */
-  close() {
-    this.closed = true;
-    for (const answer of this.waiting.values()) answer(null);
-    this.waiting.clear();
-  }
-
-  send(message) {
-    if (this.closed) return;
-    const body = Buffer.from(JSON.stringify({ jsonrpc: '2.0', ...message }));
-    this.process.stdin.write(`Content-Length: ${body.length}\r\n\r\n`);
-    this.process.stdin.write(body);
-  }
-
-  tell(method, params) {
-    this.send({ method, params });
-  }
-
-  ask(method, params) {
-    if (this.closed) return Promise.resolve(null);
-    const id = this.next++;
-    return new Promise((answer) => {
-      this.waiting.set(id, answer);
-      this.send({ id, method, params });
-    });
-  }
-
-  /** Bytes from the server: every whole message is passed on. */
-  take(bytes) {
-    this.input = Buffer.concat([this.input, bytes]);
-    for (;;) {
-      const end = this.input.indexOf('\r\n\r\n');
-      if (end < 0) return;
-      const length = Number(/Content-Length: (\d+)/i.exec(this.input.toString('latin1', 0, end))[1]);
-      const from = end + 4;
-      if (this.input.length < from + length) return;
-      const message = JSON.parse(this.input.toString('utf8', from, from + length));
-      this.input = this.input.subarray(from + length);
-      if (message.method) this.heard(message);
-      else {
-        const answer = this.waiting.get(message.id);
-        this.waiting.delete(message.id);
-        if (answer) answer(message.result ?? null);
-      }
+  heard({ method, params }) {
+    if (method === 'textDocument/publishDiagnostics') {
+      this.found.set(vscode.Uri.parse(params.uri), params.diagnostics.map(diagnostic));
     }
   }
+
+  open(document) {
+    if (!ours(document)) return;
+    const { uri, version } = document;
+    const textDocument = { uri: uri.toString(), languageId: 'station', version, text: document.getText() };
+    this.client.tell('textDocument/didOpen', { textDocument });
+  }
+
+  change({ document }) {
+    if (!ours(document)) return;
+    const textDocument = { uri: document.uri.toString(), version: document.version };
+    this.client.tell('textDocument/didChange', { textDocument, contentChanges: [{ text: document.getText() }] });
+  }
+
+  close(document) {
+    if (ours(document)) this.client.tell('textDocument/didClose', { textDocument: { uri: document.uri.toString() } });
+  }
 }
 
-const range = (r) => new vscode.Range(r.start.line, r.start.character, r.end.line, r.end.character);
-const about = (document, position) => ({
-  textDocument: { uri: document.uri.toString() },
-  position: position && { line: position.line, character: position.character },
-});
-
-function providers(client) {
-  const ask = (method, document, position) => client.ask(`textDocument/${method}`, about(document, position));
-  return [
-    vscode.languages.registerHoverProvider('station', {
-      async provideHover(document, position) {
-        const hover = await ask('hover', document, position);
-        return hover && new vscode.Hover(new vscode.MarkdownString(hover.contents.value));
-      },
-    }),
-    vscode.languages.registerDefinitionProvider('station', {
-      async provideDefinition(document, position) {
-        const place = await ask('definition', document, position);
-        return place && new vscode.Location(document.uri, range(place.range));
-      },
-    }),
-    vscode.languages.registerCompletionItemProvider('station', {
-      async provideCompletionItems(document, position) {
-        const items = (await ask('completion', document, position)) || [];
-        return items.map(({ label, textEdit }) => {
-          const item = new vscode.CompletionItem(label);
-          item.insertText = textEdit.newText;
-          item.range = range(textEdit.range);
-          return item;
-        });
-      },
-    }, '\t', '.'),
-    vscode.languages.registerDocumentFormattingEditProvider('station', {
-      async provideDocumentFormattingEdits(document) {
-        const edits = (await ask('formatting', document)) || [];
-        return edits.map((edit) => new vscode.TextEdit(range(edit.range), edit.newText));
-      },
-    }),
-  ];
-}
-
-async function activate(context) {
-  const found = vscode.languages.createDiagnosticCollection('station');
-  const program = vscode.workspace.getConfiguration('station').get('program', 'station');
-  const client = new Client(program, ({ method, params }) => {
-    if (method !== 'textDocument/publishDiagnostics') return;
-    const diagnostics = params.diagnostics.map((one) => {
-      const diagnostic = new vscode.Diagnostic(range(one.range), one.message);
-      diagnostic.code = one.code;
-      diagnostic.source = one.source;
-      return diagnostic;
+/** What `station explain NUMBER` says, as the text of `station:explain/NUMBER`. */
+const explanations = {
+  provideTextDocumentContent(uri) {
+    const number = uri.path.split('/').pop();
+    return new Promise((answer) => {
+      execFile(program(), ['explain', number], (error, out) => answer(error ? `station: ${error.message}` : out));
     });
-    found.set(vscode.Uri.parse(params.uri), diagnostics);
-  });
-  await client.ask('initialize', { capabilities: {} });
-  client.tell('initialized', {});
-  const ours = (document) => document.languageId === 'station';
-  const named = (document) => ({ uri: document.uri.toString(), text: document.getText() });
-  const open = (document) => ours(document) && client.tell('textDocument/didOpen', { textDocument: named(document) });
-  const change = ({ document }) => ours(document) && client.tell('textDocument/didChange', {
-    textDocument: { uri: document.uri.toString() },
-    contentChanges: [{ text: document.getText() }],
-  });
-  const close = (document) => ours(document) && client.tell('textDocument/didClose', { textDocument: named(document) });
-  vscode.workspace.textDocuments.forEach(open);
+  },
+};
+
+async function explain(number) {
+  const document = await vscode.workspace.openTextDocument(vscode.Uri.parse(`station:explain/${number}`));
+  await vscode.window.showTextDocument(document, { preview: true });
+}
+
+function activate(context) {
+  const server = new Server();
+  const { workspace, commands } = vscode;
   context.subscriptions.push(
-    found,
-    vscode.workspace.onDidOpenTextDocument(open),
-    vscode.workspace.onDidChangeTextDocument(change),
-    vscode.workspace.onDidCloseTextDocument(close),
-    ...providers(client),
-    { dispose: () => client.ask('shutdown').then(() => client.tell('exit')) },
+    server.found,
+    workspace.onDidOpenTextDocument((document) => server.open(document)),
+    workspace.onDidChangeTextDocument((change) => server.change(change)),
+    workspace.onDidCloseTextDocument((document) => server.close(document)),
+    workspace.onDidChangeConfiguration((change) => change.affectsConfiguration('station.program') && server.restart()),
+    workspace.registerTextDocumentContentProvider('station', explanations),
+    commands.registerCommand('station.explain', explain),
+    commands.registerCommand('station.restart', () => server.restart()),
+    ...providers(server),
+    { dispose: () => server.client.stop() },
   );
+  server.start();
 }
 
 module.exports = { activate };

@@ -131,14 +131,6 @@ fn parsed_values(given: &[Given]) -> Result<Values, Misuse> {
     Ok(values)
 }
 
-/// Is there a share for each script, where shares are given?
-fn shares_fit(shares: Option<&Vec<u32>>, scripts: usize) -> Result<(), Misuse> {
-    match shares.map(Vec::len) {
-        Some(shares) if shares != scripts => Err(Misuse::SharesEach(shares, scripts)),
-        _ => Ok(()),
-    }
-}
-
 /// The operands, the command among them, and the options.
 fn split(words: impl Iterator<Item = OsString>) -> Result<(Vec<OsString>, Vec<Given>), Misuse> {
     let mut words = words;
@@ -221,7 +213,6 @@ pub fn parse(words: impl Iterator<Item = OsString>) -> Result<Parsed, Misuse> {
     }
     let command = command_named(&names.remove(0))?;
     fits(command, &given, names.len())?;
-    shares_fit(values.shares.as_ref(), names.len())?;
     if flags.contains(&Flag::Check) && flags.contains(&Flag::Write) {
         return Err(Misuse::CheckAndWrite);
     }

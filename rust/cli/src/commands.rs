@@ -1,116 +1,56 @@
-//! The commands that check, run, format and explain.
+//! The commands that check, run and explain.
 
 use crate::args::number_of;
 use crate::authority::identity::build;
-use crate::files::{self, complain, Unread};
+use crate::completions::{self, Shell};
+use crate::files::complain;
 use crate::misuse::Misuse;
 use crate::session::{status, Session, Status};
 use crate::table::Flag;
-use crate::usage::{self, Shell};
-use explain::{cards, cause, fmt, objects, show, Asked, Json, Report};
+use explain::{cards, cause, objects, show, Asked, Json, Report};
 use std::ffi::OsStr;
 
-/// `station check`: each file, then a count where there are many.
-pub fn check(session: &mut Session) -> Status {
-    session.words.operands = files::expanded(&session.words.operands);
-    let many = session.words.operands.len() > 1;
-    let (mut accepted, mut refused) = (0, 0);
-    let mut worst = Status::Done;
-    for name in std::mem::take(&mut session.words.operands) {
-        let Some(text) = session.text(&name) else {
-            worst = Status::Failed;
-            continue;
-        };
-        let shown = show::file_name(&name);
-        let mut report = Report::of(&mut session.library, &shown, &text, Asked::Check);
-        if session.words.has(Flag::First) {
-            report.further.clear();
-        }
-        match report.good() {
-            true => accepted += 1,
-            false => refused += 1,
-        }
-        worst = worst.max(status(&report));
-        if session.json() {
-            session.print_json(&objects::report(&report));
-        } else if session.words.has(Flag::Short) {
-            session.print(&show::short(&report));
-        } else if !(report.good() && session.words.has(Flag::Quiet)) {
-            session.print(&show::report(&report, session.paint));
-        }
-    }
-    if many && !session.json() && !session.words.has(Flag::Short) && !session.words.has(Flag::Quiet)
-    {
-        session.print(&format!("{accepted} accepted, {refused} refused\n"));
-    }
-    worst
-}
-
-/// `station run` and `station trial`.
-pub fn run(session: &mut Session, asked: Asked) -> Status {
-    session.each(|session, name, text| {
-        let shown = show::file_name(name);
-        let report = Report::of(&mut session.library, &shown, text, asked);
-        let cards = report
-            .ran
-            .as_ref()
-            .filter(|_| session.words.has(Flag::Cards));
-        let cards = cards.and_then(|ran| cards::after(text, ran.outcome.steps()));
-        if cards.is_none() && session.words.has(Flag::Cards) && report.ran.is_some() {
-            let most = cause::AGAIN;
-            complain(&format!("cards are shown after at most {most} steps"));
-        }
-        if session.json() {
-            let object = objects::report(&report);
-            let object = object.with_some("cards", cards.map(|cards| cards.json()));
-            session.print_json(&object);
-        } else {
-            session.print(&show::report(&report, session.paint));
-            if let Some(cards) = cards {
-                session.print(&cards.table());
-            }
-        }
-        status(&report)
-    })
-}
-
-/// `station fmt`, one file.
-pub fn fmt_one(session: &mut Session, name: &OsStr, text: &[u8]) -> Status {
+/// `station check`, one file.
+pub fn check_one(session: &mut Session, name: &OsStr, text: &[u8]) -> Status {
     let shown = show::file_name(name);
-    if text.len() > nuyardi::limits::TEXT_BYTES {
-        session.unread(name, &Unread::TooLong);
-        return Status::Refused;
-    }
-    let better = fmt::formatted(text);
-    let same = better == text;
-    let (checks, writes) = (
-        session.words.has(Flag::Check),
-        session.words.has(Flag::Write),
-    );
-    if writes && !same && name != "-" {
-        if let Err(error) = files::replace(name.as_ref(), &better) {
-            session.unread(name, &error);
-            return Status::Failed;
-        }
+    let mut report = Report::of(&mut session.library, &shown, text, Asked::Check);
+    if session.words.has(Flag::First) {
+        report.further.clear();
     }
     if session.json() {
-        let text = String::from_utf8_lossy(&better).into_owned();
-        let object = Json::object()
-            .with("file", shown)
-            .with("call", "fmt")
-            .with("changed", !same)
-            .with_some("output", (!checks && !writes).then_some(text));
+        session.print_json(&objects::report(&report));
+    } else if session.words.has(Flag::Short) {
+        session.print(&show::short(&report));
+    } else if !(report.good() && session.quiet()) {
+        session.print(&show::report(&report, session.paint));
+    }
+    status(&report)
+}
+
+/// `station run` and `station trial`, one file.
+pub fn run_one(session: &mut Session, name: &OsStr, text: &[u8], asked: Asked) -> Status {
+    let shown = show::file_name(name);
+    let report = Report::of(&mut session.library, &shown, text, asked);
+    let cards = report
+        .ran
+        .as_ref()
+        .filter(|_| session.words.has(Flag::Cards));
+    let cards = cards.and_then(|ran| cards::after(text, ran.outcome.steps()));
+    if cards.is_none() && session.words.has(Flag::Cards) && report.ran.is_some() {
+        let most = cause::AGAIN;
+        complain(&format!("cards are shown after at most {most} steps"));
+    }
+    if session.json() {
+        let object = objects::report(&report);
+        let object = object.with_some("cards", cards.map(|cards| cards.json()));
         session.print_json(&object);
-    } else if checks && !same {
-        session.print(&format!("{shown}: not in its form\n"));
-    } else if !checks && (!writes || name == "-") {
-        session.out.write(&better);
-    }
-    if checks && !same {
-        Status::Refused
     } else {
-        Status::Done
+        session.print(&show::report(&report, session.paint));
+        if let Some(cards) = cards {
+            session.print(&cards.table());
+        }
     }
+    status(&report)
 }
 
 /// `station explain`.
@@ -132,7 +72,7 @@ pub fn completions(session: &mut Session) -> Status {
     let Some(shell) = Shell::of(word) else {
         return session.misused(&Misuse::Shell(word.to_os_string()));
     };
-    session.print(&usage::completions(shell));
+    session.print(&completions::completions(shell));
     Status::Done
 }
 

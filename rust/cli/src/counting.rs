@@ -1,8 +1,9 @@
 //! `station count`: up to four scripts over one heap, each with its share.
 
+use crate::misuse::Misuse;
 use crate::session::{Session, Status};
 use explain::{show, Counting};
-use nuyardi::limits::OBJECTS;
+use nuyardi::limits::{OBJECTS, SCRIPTS};
 use nuyardi::Share;
 
 /// Equal parts of the heap's objects; what does not divide is left over.
@@ -17,8 +18,25 @@ fn texts(session: &mut Session) -> Option<Vec<Vec<u8>>> {
     texts.into_iter().collect()
 }
 
+/// Are there no more scripts than a count takes, folders replaced by theirs, and a
+/// share for each where shares are given?
+fn fits(session: &Session) -> Result<(), Misuse> {
+    let scripts = session.words.operands.len();
+    if scripts > SCRIPTS {
+        return Err(Misuse::Scripts(scripts));
+    }
+    match session.words.shares.as_ref().map(Vec::len) {
+        Some(shares) if shares != scripts => Err(Misuse::SharesEach(shares, scripts)),
+        _ => Ok(()),
+    }
+}
+
 /// `station count`.
 pub fn count(session: &mut Session) -> Status {
+    session.words.operands = session.scripts();
+    if let Err(misuse) = fits(session) {
+        return session.misused(&misuse);
+    }
     let Some(texts) = texts(session) else {
         return Status::Failed;
     };

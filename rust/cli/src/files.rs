@@ -13,7 +13,7 @@ const READ_BYTES: u64 = nuyardi::limits::TEXT_BYTES as u64 + 1;
 #[derive(Debug)]
 pub enum Unread {
     System(std::io::Error),
-    /// A folder without a script, or where one file is wanted.
+    /// A folder without a script.
     Folder,
     /// More bytes than a text may have, where the rest would be lost.
     TooLong,
@@ -30,10 +30,7 @@ impl fmt::Display for Unread {
         match self {
             Unread::System(error) => write!(f, "{error}"),
             Unread::Folder => {
-                write!(
-                    f,
-                    "a folder with no file that ends in .script, or not one file"
-                )
+                write!(f, "a folder with no file that ends in .script")
             }
             Unread::TooLong => {
                 let most = nuyardi::limits::TEXT_BYTES;
@@ -83,6 +80,11 @@ fn scripts(folder: &Path, depth: usize, found: &mut Vec<PathBuf>) -> std::io::Re
     Ok(())
 }
 
+/// Is it the name of a folder?
+pub fn is_folder(name: &OsStr) -> bool {
+    name != "-" && Path::new(name).is_dir()
+}
+
 /// Each folder replaced by its scripts; what can't be read stays, and fails
 /// when it is read.
 pub fn expanded(names: &[OsString]) -> Vec<OsString> {
@@ -90,8 +92,7 @@ pub fn expanded(names: &[OsString]) -> Vec<OsString> {
     for name in names {
         let mut found = Vec::new();
         let path = Path::new(name);
-        let folder = name != "-" && path.is_dir();
-        if folder && scripts(path, DEPTH, &mut found).is_ok() && !found.is_empty() {
+        if is_folder(name) && scripts(path, DEPTH, &mut found).is_ok() && !found.is_empty() {
             all.extend(found.into_iter().map(PathBuf::into_os_string));
         } else {
             all.push(name.clone());

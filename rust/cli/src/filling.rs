@@ -2,15 +2,20 @@
 //! stands for, printed, or written in the star's place.
 
 use crate::files::{self, complain};
-use crate::session::{status, Session, Status};
+use crate::session::{status, Session, Status, Summary};
 use crate::table::Flag;
 use explain::{objects, show, Asked, Filling, Json, Report};
 use nuyardi::limits::TEXT_BYTES;
 use nuyardi::Filled;
 use std::ffi::OsStr;
 
-/// `station fill`, one file.
-pub fn fill_one(session: &mut Session, name: &OsStr, text: &[u8]) -> Status {
+/// `station fill`.
+pub fn fill(session: &mut Session) -> Status {
+    session.each(Summary::new("filled in", "not filled in"), fill_one)
+}
+
+/// One file.
+fn fill_one(session: &mut Session, name: &OsStr, text: &[u8]) -> Status {
     let shown = show::file_name(name);
     let filling = Filling::of(&mut session.library, &shown, text);
     match filling.found {

@@ -2,7 +2,7 @@
 //! told.
 
 use crate::files;
-use crate::session::{Session, Status};
+use crate::session::{Session, Status, Summary};
 use crate::table::Flag;
 use explain::cause::agreed;
 use explain::fix::{fix, Fix, WHOLE};
@@ -45,8 +45,18 @@ fn object(file: &str, text: &[u8], accepted: bool, fix: Option<&Fix>, output: bo
         .with_some("output", fixed)
 }
 
-/// `station fix`, one file.
-pub fn fix_one(session: &mut Session, name: &OsStr, text: &[u8]) -> Status {
+/// `station fix`.
+pub fn fix_all(session: &mut Session) -> Status {
+    let told = session.words.has(Flag::Check) || session.words.has(Flag::Write);
+    let summary = match session.words.has(Flag::Check) {
+        true => Summary::new("need no fix", "need one"),
+        false => Summary::new("accepted", "still refused"),
+    };
+    session.each(summary.aside(!told), fix_one)
+}
+
+/// One file.
+fn fix_one(session: &mut Session, name: &OsStr, text: &[u8]) -> Status {
     let shown = show::file_name(name);
     let accepted = session.library.check(text).is_ok();
     let found = fix(text, WHOLE).filter(|_| !accepted);

@@ -1,12 +1,12 @@
-//! The commands that look into a text: trace, known, draw and bound.
+//! The commands that look into a text: trace, known and bound.
 
-use crate::files::complain;
-use crate::session::{status, Session, Status};
+use crate::files::{complain, is_folder};
+use crate::session::{status, Session, Status, Summary};
 use crate::table::Flag;
 use explain::known::{self, Known};
 use explain::script::{quoted, Script};
 use explain::show::{self, file_name};
-use explain::{cards, draw, objects, trace, Asked, Bounded, Report};
+use explain::{cards, trace, Asked, Bounded, Report};
 use std::ffi::{OsStr, OsString};
 
 /// `station trace`, one file.
@@ -34,31 +34,6 @@ pub fn trace_one(session: &mut Session, name: &OsStr, text: &[u8]) -> Status {
     session.print(&show::ending(&report, session.paint));
     session.print(&cards.map_or(String::new(), |cards| cards.table()));
     status(&report)
-}
-
-/// `station draw`, one file.
-pub fn draw_one(session: &mut Session, name: &OsStr, text: &[u8]) -> Status {
-    let shown = file_name(name);
-    let asked = session.shown_run();
-    let report = Report::of(&mut session.library, &shown, text, asked);
-    let picture = draw::picture(&report);
-    if session.json() {
-        let object = objects::report(&report).with_some("picture", picture.clone());
-        session.print_json(&object);
-    } else {
-        match &picture {
-            Some(picture) => {
-                eprint!("{}", show::head(&report, session.paint));
-                session.print(picture);
-            }
-            None => session.print(&show::report(&report, session.paint)),
-        }
-    }
-    // A stopped run has its picture too; a text that is not run has none.
-    match picture {
-        Some(_) => Status::Done,
-        None => Status::Refused,
-    }
 }
 
 /// `station bound`, one file.
@@ -110,18 +85,32 @@ fn print_known(
     }
 }
 
-/// `station known`.
+/// `station known`, each file.
 pub fn known(session: &mut Session) -> Status {
-    let word = session.words.operands.first().cloned().unwrap_or_default();
-    let (name, line) = file_and_line(&word);
-    let Some(text) = session.text(&name) else {
-        return Status::Failed;
-    };
-    let shown = file_name(&name);
-    let report = Report::of(&mut session.library, &shown, &text, Asked::Check);
+    let mut tally = session.tally(Summary::new("accepted", "refused"));
+    for word in session.scripts() {
+        let (name, line) = file_and_line(&word);
+        let status = if line.is_some() && is_folder(&name) {
+            let shown = file_name(&name);
+            complain(&format!("{shown} is a folder; a line is one of a file"));
+            Status::Failed
+        } else {
+            match session.text(&name) {
+                Some(text) => known_one(session, &name, &text, line),
+                None => Status::Failed,
+            }
+        };
+        tally.note(status);
+    }
+    session.summed_up(&tally)
+}
+
+fn known_one(session: &mut Session, name: &OsStr, text: &[u8], line: Option<u32>) -> Status {
+    let shown = file_name(name);
+    let report = Report::of(&mut session.library, &shown, text, Asked::Check);
     // What is known around a line that is not finished.
-    let patched = explain::all::readable(&text);
-    let Some(script) = Script::of(patched.as_deref().unwrap_or(&text)) else {
+    let patched = explain::all::readable(text);
+    let Some(script) = Script::of(patched.as_deref().unwrap_or(text)) else {
         session.print_report(&report);
         return Status::Refused;
     };

@@ -4,10 +4,14 @@
 mod args;
 mod authority;
 mod commands;
+mod completions;
 mod counting;
+mod creating;
+mod drawing;
 mod files;
 mod filling;
 mod fixing;
+mod formatting;
 mod library;
 mod looking;
 mod lsp;
@@ -15,6 +19,7 @@ mod misuse;
 mod progress;
 mod session;
 mod table;
+mod testing;
 mod usage;
 
 use args::Colour;
@@ -22,31 +27,41 @@ use explain::show::Paint;
 use explain::Asked;
 use files::{complain, Out};
 use library::Library;
-use session::{Session, Status};
+use session::{Session, Status, Summary};
 use std::process::ExitCode;
 use table::{Command, Flag};
+
+const ACCEPTED: Summary = Summary::new("accepted", "refused");
+const FINISHED: Summary = Summary::new("finished", "not finished");
+const BOUNDED: Summary = Summary::new("bounded", "without a bound");
 
 fn dispatch(session: &mut Session) -> Status {
     let steps = session.words.steps;
     match session.words.command {
-        Command::Check => commands::check(session),
+        Command::Check => session.each(ACCEPTED, commands::check_one),
         Command::Run => {
             let asked = match session.words.has(Flag::Lean) {
                 true => Asked::Lean(steps),
                 false => Asked::Run(steps),
             };
-            commands::run(session, asked)
+            session.each(FINISHED, |session, name, text| {
+                commands::run_one(session, name, text, asked)
+            })
         }
-        Command::Trial => commands::run(session, Asked::Trial(steps)),
+        Command::Trial => session.each(FINISHED, |session, name, text| {
+            commands::run_one(session, name, text, Asked::Trial(steps))
+        }),
         Command::Count => counting::count(session),
-        Command::Trace => session.each(looking::trace_one),
+        Command::Trace => session.each(FINISHED, looking::trace_one),
         Command::Known => looking::known(session),
-        Command::Draw => session.each(looking::draw_one),
-        Command::Bound => session.each_script(looking::bound_one),
+        Command::Draw => drawing::draw(session),
+        Command::Bound => session.each(BOUNDED, looking::bound_one),
         Command::Report => authority::report(session),
-        Command::Fmt => session.each_script(commands::fmt_one),
-        Command::Fix => session.each_script(fixing::fix_one),
-        Command::Fill => session.each(filling::fill_one),
+        Command::Fmt => formatting::fmt(session),
+        Command::Fix => fixing::fix_all(session),
+        Command::Fill => filling::fill(session),
+        Command::New => creating::new(session),
+        Command::Test => testing::test(session),
         Command::Explain => commands::explain(session),
         Command::Completions => commands::completions(session),
         Command::Lsp => lsp::serve(),

@@ -26,9 +26,13 @@ pub enum Misuse {
     Shares(OsString),
     /// So many shares, and so many scripts.
     SharesEach(usize, usize),
+    /// So many scripts of a count, folders replaced by theirs.
+    Scripts(usize),
     Colour(OsString),
     /// What explain is asked.
     Number(OsString),
+    /// `test -`.
+    NoCompanion,
     /// What completions is asked.
     Shell(OsString),
     /// `--html` twice.
@@ -156,6 +160,17 @@ impl fmt::Display for Misuse {
                     "--shares takes a number for each script: scripts {scripts}, shares {shares}"
                 )
             }
+            Misuse::Scripts(given) => {
+                let most = nuyardi::limits::SCRIPTS;
+                write!(
+                    f,
+                    "count takes at most {most} scripts, and {given} were given"
+                )
+            }
+            Misuse::NoCompanion => write!(
+                f,
+                "test needs a file, for the file NAME.expected beside it, not standard input"
+            ),
             Misuse::Colour(word) => {
                 write!(
                     f,

@@ -7,7 +7,8 @@ use crate::misuse::Misuse;
 use crate::table::Flag;
 use explain::show::{self, Paint};
 use explain::{objects, Asked, Json, Report};
-use std::ffi::OsStr;
+use std::ffi::{OsStr, OsString};
+use std::fmt;
 use std::process::ExitCode;
 
 /// How a call of the command ends; the worse, the higher.
@@ -40,6 +41,63 @@ impl From<Status> for ExitCode {
 /// Done if the text is accepted, or finished where it was run.
 pub fn status(report: &Report) -> Status {
     Status::of(report.good())
+}
+
+/// How a command calls files that came out well, and those that did not.
+#[derive(Clone, Copy, Debug)]
+pub struct Summary {
+    good: &'static str,
+    bad: &'static str,
+    /// Told on standard error, beside a text or a picture on standard output.
+    aside: bool,
+}
+
+impl Summary {
+    pub const fn new(good: &'static str, bad: &'static str) -> Summary {
+        Summary {
+            good,
+            bad,
+            aside: false,
+        }
+    }
+
+    pub fn aside(self, aside: bool) -> Summary {
+        Summary { aside, ..self }
+    }
+}
+
+/// What came of the files.
+#[derive(Debug)]
+pub struct Tally {
+    summary: Summary,
+    told: bool,
+    /// By their statuses.
+    counts: [usize; 3],
+}
+
+impl Tally {
+    pub fn note(&mut self, status: Status) {
+        self.counts[status as usize] += 1;
+    }
+
+    fn worst(&self) -> Status {
+        match self.counts {
+            [_, 0, 0] => Status::Done,
+            [_, _, 0] => Status::Refused,
+            _ => Status::Failed,
+        }
+    }
+}
+
+impl fmt::Display for Tally {
+    fn fmt(&self, f: &mut fmt::Formatter<'_>) -> fmt::Result {
+        let ([good, bad, failed], summary) = (self.counts, self.summary);
+        write!(f, "{good} {}, {bad} {}", summary.good, summary.bad)?;
+        match failed {
+            0 => Ok(()),
+            _ => write!(f, ", {failed} failed"),
+        }
+    }
 }
 
 /// One call of the command: its words, and where it writes.
@@ -110,23 +168,52 @@ impl Session {
         complain_of(name, error);
     }
 
-    /// Each file by one function; the worst status.
-    pub fn each(&mut self, one: impl Fn(&mut Session, &OsStr, &[u8]) -> Status) -> Status {
-        let names = std::mem::take(&mut self.words.operands);
-        let mut worst = Status::Done;
-        for name in names {
+    /// Each script by one function, folders replaced by their scripts, and then a
+    /// summary where there are more; the worst status.
+    pub fn each(
+        &mut self,
+        summary: Summary,
+        one: impl Fn(&mut Session, &OsStr, &[u8]) -> Status,
+    ) -> Status {
+        let mut tally = self.tally(summary);
+        for name in self.scripts() {
             let status = match self.text(&name) {
                 Some(text) => one(self, &name, &text),
                 None => Status::Failed,
             };
-            worst = worst.max(status);
+            tally.note(status);
         }
-        worst
+        self.summed_up(&tally)
     }
 
-    /// The same, each folder replaced by its scripts.
-    pub fn each_script(&mut self, one: impl Fn(&mut Session, &OsStr, &[u8]) -> Status) -> Status {
-        self.words.operands = files::expanded(&self.words.operands);
-        self.each(one)
+    /// The operands, each folder replaced by its scripts.
+    pub fn scripts(&mut self) -> Vec<OsString> {
+        files::expanded(&std::mem::take(&mut self.words.operands))
+    }
+
+    /// A tally of no files yet, for these operands.
+    pub fn tally(&self, summary: Summary) -> Tally {
+        let operands = &self.words.operands;
+        let many = operands.len() > 1 || operands.iter().any(|name| files::is_folder(name));
+        Tally {
+            summary,
+            told: many && !self.json() && !self.words.has(Flag::Short) && !self.quiet(),
+            counts: [0; 3],
+        }
+    }
+
+    pub fn quiet(&self) -> bool {
+        self.words.has(Flag::Quiet)
+    }
+
+    /// Tells the summary: the worst status.
+    pub fn summed_up(&mut self, tally: &Tally) -> Status {
+        if tally.told {
+            match tally.summary.aside {
+                true => complain(&tally.to_string()),
+                false => self.print(&format!("{tally}\n")),
+            }
+        }
+        tally.worst()
     }
 }

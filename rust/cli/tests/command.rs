@@ -44,12 +44,19 @@ fn statuses() {
         (&["count", "examples/tag.script", "no-such-file"], 2),
         (&["count", "--shares", "257", "examples/tag.script"], 1),
         (&["count", "--shares=1,1", "examples/tag.script"], 2),
+        (&["count", "examples"], 2),
         (&["count", "--rounds=-1", "examples/tag.script"], 2),
         (&["fill", "examples/fill.script"], 0),
         (&["fill", "examples/refused-17.script"], 1),
         (&["fill", "examples/tag.script"], 1),
         (&["fill", "no-such-file"], 2),
-        (&["fill", "examples/fill.script", "examples/fill.script"], 2),
+        (&["fill", "examples/fill.script", "examples/tag.script"], 1),
+        (&["new"], 2),
+        (&["new", "examples/tag.script"], 2),
+        (&["new", "-"], 0),
+        (&["test", "-"], 2),
+        (&["test", "examples/tag.script"], 0),
+        (&["test", "examples/first.script"], 2),
         (&["explain", "12"], 0),
         (&["fmt", "-"], 0),
         (&["tabs", "-"], 0),
@@ -67,7 +74,7 @@ fn statuses() {
 
 #[test]
 fn wrong_use() {
-    let wrong: [&[&str]; 17] = [
+    let wrong: [&[&str]; 18] = [
         &[],
         &["check"],
         &["run"],
@@ -75,7 +82,8 @@ fn wrong_use() {
         &["explain"],
         &["explain", "20"],
         &["explain", "many"],
-        &["run", "a", "b"],
+        &["new", "a", "b"],
+        &["count", "a", "b", "c", "d", "e"],
         &["trial"],
         &["run", "--trial", "a"],
         &["run", "--steps", "-1", "a"],
@@ -108,7 +116,8 @@ fn the_other_files_are_done() {
     let (out, error, status) = said(&words, b"");
     assert_eq!(status, 2);
     assert!(out.starts_with("examples/refused-12.script:6: refused, number 12: "));
-    assert!(out.ends_with("examples/tag.script: accepted\n1 accepted, 1 refused\n"));
+    let end = "examples/tag.script: accepted\n1 accepted, 1 refused, 1 failed\n";
+    assert!(out.ends_with(end), "{out}");
     assert!(error.starts_with("station: no-such-file: "), "{error}");
 }
 
@@ -452,15 +461,22 @@ fn fmt_writes() {
     std::fs::write(&good, "main\nend\n").expect("written");
     std::fs::write(
         &bad,
-        "\u{feff}main\r\n var int\u{a0}a\r\nlet a \u{2212}5\r\nend",
+        "\u{feff}main\r\n var int\u{a0}a\r\n\r\nlet a \u{2212}5\r\n \t\nend",
     )
     .expect("written");
     let before = std::fs::metadata(&good)
         .and_then(|data| data.modified())
         .expect("a time");
     let path = folder.to_str().expect("a name");
-    assert_eq!(status(&["fmt", "--check", path], b""), 1);
-    assert_eq!(status(&["fmt", "--write", path], b""), 0);
+    let (out, _, status_of_check) = said(&["fmt", "--check", path], b"");
+    let changes = "not in its form: 4 lines to change, 2 empty lines to drop";
+    let expected = format!("{path}/bad.script: {changes}\n1 in form, 1 not in form\n");
+    assert_eq!((out, status_of_check), (expected, 1));
+    let (out, _, status_of_write) = said(&["fmt", "--write", path], b"");
+    let changes = "written: 4 lines changed, 2 empty lines dropped";
+    let kept = format!("{path}/good.script: not changed");
+    let expected = format!("{path}/bad.script: {changes}\n{kept}\n2 formatted, 0 not formatted\n");
+    assert_eq!((out, status_of_write), (expected, 0));
     assert_eq!(status(&["fmt", "--check", path], b""), 0);
     let mended = std::fs::read_to_string(&bad).expect("the file");
     assert_eq!(mended, "main\nvar\tint\ta\nlet\ta\t-5\nend\n");
@@ -512,24 +528,5 @@ fn a_closed_pipe() {
         let output = child.wait_with_output().expect("station ends");
         assert_eq!(String::from_utf8_lossy(&output.stderr), "");
         assert_eq!(output.status.code(), Some(expected));
-    }
-}
-
-/// The shells take the completions that are made for them, where they are here.
-#[test]
-fn completions_are_scripts() {
-    for shell in ["bash", "zsh", "fish"] {
-        let (text, _, _) = said(&["completions", shell], b"");
-        assert!(text.contains("check") && text.contains("steps"), "{text}");
-        let mut tried = std::process::Command::new(shell);
-        tried.arg("-n").stdin(std::process::Stdio::piped());
-        let Ok(mut child) = tried.spawn() else {
-            println!("no {shell} here");
-            continue;
-        };
-        use std::io::Write;
-        let input = child.stdin.take().expect("its input");
-        let _ = { input }.write_all(text.as_bytes());
-        assert!(child.wait().expect("it ends").success(), "{shell}");
     }
 }

@@ -82,11 +82,83 @@ fn the_words() {
     );
     let all = WORDS.join("\\|");
     assert!(read("editors/vim/syntax/station.vim").contains(&format!("/^\\({all}\\)\\ze")));
+    let all = WORDS.join("|");
+    assert!(read("editors/kakoune/station.kak").contains(&format!("'^({all})(?=")));
+    assert_eq!(listed("editors/emacs/station-mode.el", "words"), WORDS);
     for word in WORDS {
         assert!(
             read("docs/LANGUAGE.md").contains(&format!("`{word}")),
             "{word} in the guide"
         );
+    }
+}
+
+/// The strings of a list that the mode for Emacs defines.
+fn listed(file: &str, name: &str) -> Vec<String> {
+    let text = read(file);
+    let start = format!("(defconst station-mode-{name}\n  '(");
+    let (_, list) = text.split_once(&start).expect(name);
+    let (list, _) = list.split_once(')').expect("its end");
+    let words = list.split('"').skip(1).step_by(2);
+    words.map(str::to_string).collect()
+}
+
+/// The parentheses of the mode for Emacs, and the braces of the file for Kakoune, are
+/// closed, strings and comments apart.
+#[test]
+fn what_is_opened_is_closed() {
+    for (file, comment, open, close) in [
+        ("editors/emacs/station-mode.el", ';', '(', ')'),
+        ("editors/kakoune/station.kak", '#', '{', '}'),
+    ] {
+        let mut depth = 0i32;
+        for line in read(file)
+            .lines()
+            .filter(|line| !line.trim_start().starts_with(comment))
+        {
+            let mut letters = line.chars();
+            let mut quoted = false;
+            while let Some(letter) = letters.next() {
+                match letter {
+                    '\\' => drop(letters.next()),
+                    '"' => quoted = !quoted,
+                    letter if letter == open && !quoted => depth += 1,
+                    letter if letter == close && !quoted => depth -= 1,
+                    _ => {}
+                }
+                assert!(depth >= 0, "{file}: {line}");
+            }
+            assert!(!quoted, "{file}: {line}");
+        }
+        assert_eq!(depth, 0, "{file}");
+    }
+}
+
+/// Every editor starts the server by the same words.
+#[test]
+fn the_server() {
+    for (file, words) in [
+        ("editors/nvim/lsp/station.lua", "cmd = { 'station', 'lsp' }"),
+        (
+            "editors/nvim/plugin/station.lua",
+            "cmd = { 'station', 'lsp' }",
+        ),
+        ("editors/emacs/station-mode.el", "(\"station\" \"lsp\")"),
+        (
+            "editors/helix/languages.toml",
+            "command = \"station\"\nargs = [\"lsp\"]",
+        ),
+        (
+            "editors/kakoune/kak-lsp.toml",
+            "command = \"station\"\nargs = [\"lsp\"]",
+        ),
+        (
+            "editors/kakoune/station.kak",
+            "command = \"station\"\n            args = [\"lsp\"]",
+        ),
+        ("editors/vscode/client.js", "spawn(program, ['lsp'])"),
+    ] {
+        assert!(read(file).contains(words), "{file}");
     }
 }
 
@@ -101,6 +173,9 @@ fn the_atoms() {
     assert!(code.contains(&format!("({})(?=", words.join("|"))));
     let vim = read("editors/vim/syntax/station.vim");
     assert!(vim.contains(&format!("\\({}\\)\\ze", words.join("\\|"))));
+    let kakoune = read("editors/kakoune/station.kak");
+    assert!(kakoune.contains(&format!("({})(?=", words.join("|"))));
+    assert_eq!(listed("editors/emacs/station-mode.el", "atoms"), words);
     for word in words {
         assert_eq!(colour(1, word), Colour::Atom, "{word}");
     }

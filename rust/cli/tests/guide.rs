@@ -82,7 +82,8 @@ fn by_length(list: &str) -> String {
 }
 
 fn fresh(block: &Block) -> String {
-    if let Some(name) = block.heading.strip_prefix("script ") {
+    let file = block.heading.strip_prefix("script ");
+    if let Some(name) = file.or(block.heading.strip_prefix("file ")) {
         return script(name).replace('\t', " ");
     }
     if let Some(name) = block.heading.strip_prefix("list ") {
@@ -301,6 +302,7 @@ fn json_fields() {
         "station count --json --shares 0 examples/north.script",
         "station fill --json examples/fill.script",
         "station fill --json examples/refused-17.script",
+        "station test --json examples/tag.script",
         "station explain --json 12",
         "station check --json no-such-file",
     ];

@@ -290,3 +290,41 @@ fn staged_and_uninstalled() {
     make("uninstall", &library, &place("stage"));
     assert_eq!(files(&stage), Vec::<String>::new());
 }
+
+/// A relative STATION_LIB is one from the folder of the Makefile, also for the builds
+/// that run in another folder. In the place of cargo a program looks for the file.
+#[cfg(unix)]
+#[test]
+fn a_relative_library() {
+    use std::os::unix::fs::PermissionsExt;
+    if !can_make() {
+        return;
+    }
+    let outside = Outside::new("relative");
+    let top = &outside.0;
+    let library = top.join("a blank/libstation.a");
+    std::fs::create_dir(top.join("a blank")).expect("a folder");
+    std::fs::copy(station_lib(), &library).expect("the library");
+    let cargo = top.join("cargo");
+    std::fs::write(
+        &cargo,
+        "#!/bin/sh\ntest -f \"$STATION_LIB\" && pwd >\"$SEEN\"\n",
+    )
+    .expect("a file");
+    let mode = std::fs::Permissions::from_mode(0o755);
+    std::fs::set_permissions(&cargo, mode).expect("a mode");
+    let here = std::fs::canonicalize(root()).expect("the repository");
+    let up = "../".repeat(here.components().count() - 1);
+    let relative = library.strip_prefix("/").expect("an absolute path");
+    let words = [
+        format!("STATION_LIB={up}{}", relative.display()),
+        format!(
+            "CARGO=SEEN='{}' '{}'",
+            top.join("seen").display(),
+            cargo.display()
+        ),
+    ];
+    make("command", &top.join("libnuyardi.a"), &words);
+    let folder = std::fs::read_to_string(top.join("seen")).expect("cargo was called");
+    assert_eq!(folder.trim_end(), here.join("rust").display().to_string());
+}

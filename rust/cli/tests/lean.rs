@@ -75,7 +75,7 @@ fn offered_with_run() {
     }
     assert!(printed(&["man"]).contains(".B \\-\\-lean\n"));
     for (shell, start) in [
-        ("bash", "    run) words="),
+        ("bash", "    run) case $word in -*) "),
         ("zsh", "  run) _arguments"),
         (
             "fish",

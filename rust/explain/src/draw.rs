@@ -28,7 +28,8 @@ fn colour(holder: Option<usize>) -> &'static str {
     holder.map_or(NOBODY, |at| HOLDERS[at % HOLDERS.len()])
 }
 
-fn escaped(text: &str) -> String {
+/// A text as it stands in a picture.
+pub fn escaped(text: &str) -> String {
     let text = text.replace('&', "&amp;").replace('<', "&lt;");
     text.replace('>', "&gt;").replace('"', "&quot;")
 }

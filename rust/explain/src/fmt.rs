@@ -40,32 +40,61 @@ fn blank(byte: &u8) -> bool {
     matches!(byte, b' ' | b'\t' | b'\r')
 }
 
-/// Runs of blanks between fields become one tab; leading and trailing blanks
-/// and CR go; U+2212 becomes `-`; a byte order mark goes; the last line is
-/// ended. Lines keep their numbers.
-pub fn formatted(text: &[u8]) -> Vec<u8> {
-    let mut out = Vec::with_capacity(text.len() + 1);
-    let mut text = text;
-    while let Some(rest) = text.strip_prefix(MARK) {
-        text = rest;
-    }
-    for line in text.split_inclusive(|&byte| byte == b'\n') {
-        let line = plain(line.strip_suffix(b"\n").unwrap_or(line));
-        let fields = line.split(blank).filter(|field| !field.is_empty());
-        for (at, field) in fields.enumerate() {
-            if at > 0 {
-                out.push(b'\t');
-            }
-            out.extend_from_slice(field);
-        }
+/// A line in its form, with its LF; nothing for an empty one.
+fn formatted_line(line: &[u8]) -> Vec<u8> {
+    let line = plain(line.strip_suffix(b"\n").unwrap_or(line));
+    let fields = line.split(blank).filter(|field| !field.is_empty());
+    let mut out = fields.collect::<Vec<_>>().join(&b'\t');
+    if !out.is_empty() {
         out.push(b'\n');
     }
     out
 }
 
+/// Each line with its form; a byte order mark goes with the first.
+fn lines(text: &[u8]) -> impl Iterator<Item = (&[u8], Vec<u8>)> {
+    let mut plain = text;
+    while let Some(rest) = plain.strip_prefix(MARK) {
+        plain = rest;
+    }
+    let marks = text.len() - plain.len();
+    let mut at = 0;
+    let typed = plain.split_inclusive(|&byte| byte == b'\n');
+    typed.map(move |line| {
+        let from = if at == 0 { 0 } else { marks + at };
+        at += line.len();
+        (&text[from..marks + at], formatted_line(line))
+    })
+}
+
+/// Runs of blanks between fields become one tab; leading and trailing blanks
+/// and CR go; U+2212 becomes `-`; a byte order mark goes; empty lines go, which
+/// no script has; the last line is ended.
+pub fn formatted(text: &[u8]) -> Vec<u8> {
+    lines(text).flat_map(|(_, better)| better).collect()
+}
+
+/// What the form changes in a text.
+#[derive(Clone, Copy, Debug, PartialEq, Eq)]
+pub struct Changes {
+    /// Lines that are put right.
+    pub lines: usize,
+    /// Empty lines that go.
+    pub dropped: usize,
+}
+
+/// Counts what [`formatted`] changes.
+pub fn changes(text: &[u8]) -> Changes {
+    let changed = |(typed, better): &(&[u8], Vec<u8>)| !better.is_empty() && typed != better;
+    Changes {
+        lines: lines(text).filter(changed).count(),
+        dropped: lines(text).filter(|(_, better)| better.is_empty()).count(),
+    }
+}
+
 #[cfg(test)]
 mod tests {
-    use super::formatted;
+    use super::{changes, formatted, Changes};
 
     #[test]
     fn blanks_become_one_tab() {
@@ -73,8 +102,9 @@ mod tests {
             (&b"let  a \t 7\n"[..], &b"let\ta\t7\n"[..]),
             (b"  let a 7\t\r\nend", b"let\ta\t7\nend\n"),
             (b"", b""),
-            (b"\n \r\n", b"\n\n"),
-            (b"\r", b"\n"),
+            (b"\n \r\n", b""),
+            (b"\r", b""),
+            (b"\n\nmain\n\t\nend\n\n", b"main\nend\n"),
             (b"a\0b\xff c\n", b"a\0b\xff\tc\n"),
             (
                 "\u{feff}let\u{a0}a \u{2212}5\r\n".as_bytes(),
@@ -89,8 +119,22 @@ mod tests {
         }
     }
 
-    /// A formatted text stays, keeps its lines, and one that the reader takes
-    /// is never changed.
+    #[test]
+    fn what_is_changed() {
+        for (typed, lines, dropped) in [
+            (&b"main\nend\n"[..], 0, 0),
+            (b"main\n\nend", 1, 1),
+            ("\u{feff}main\n end\n".as_bytes(), 2, 0),
+            ("\u{feff}\nmain\nend\n".as_bytes(), 0, 1),
+            (b"\n \n", 0, 2),
+            (b"", 0, 0),
+        ] {
+            assert_eq!(changes(typed), Changes { lines, dropped }, "{typed:?}");
+        }
+    }
+
+    /// A formatted text stays, has each line that was not empty, and one that the
+    /// reader takes is never changed.
     #[test]
     fn what_has_its_form_stays() {
         for seed in 0..2_000u64 {
@@ -104,7 +148,12 @@ mod tests {
             assert_eq!(formatted(&once), once, "{text:?}");
             assert!(once.is_empty() || once.ends_with(b"\n"));
             let lines = |text: &[u8]| text.split_inclusive(|&byte| byte == b'\n').count();
-            assert_eq!(lines(&once), lines(&text));
+            let Changes {
+                lines: changed,
+                dropped,
+            } = changes(&text);
+            assert_eq!(lines(&once) + dropped, lines(&text));
+            assert_eq!(changed + dropped == 0, once == text);
         }
         let mut read = 0;
         for seed in 0..3_000 {

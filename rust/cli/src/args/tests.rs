@@ -38,8 +38,8 @@ fn not_understood() {
         ("", "no command"),
         ("chek a", "no command chek; did you mean `check`?"),
         ("check --jsn a", "no option --jsn; did you mean `--json`?"),
-        ("run", "run takes FILE, and 0 were given"),
-        ("run a b", "run takes FILE, and 2 were given"),
+        ("run", "run takes FILE.., and 0 were given"),
+        ("new a b", "new takes FILE, and 2 were given"),
         ("tabs a b", "tabs takes FILE, and 2 were given"),
         ("run --steps", "--steps needs N"),
         (
@@ -49,7 +49,7 @@ fn not_understood() {
         ("run --steps= a", "--steps takes 0 to 4294967295, not \"\""),
         (
             "check --steps 5 a",
-            "--steps goes with run, trial, trace, draw, report, not with check",
+            "--steps goes with run, trial, trace, draw, report, test, not with check",
         ),
         ("check --json=yes a", "--json takes no value"),
         ("run --lean=yes a", "--lean takes no value"),
@@ -83,13 +83,13 @@ fn not_understood() {
         (
             "man --json",
             "--json goes with check, run, trial, count, bound, report, trace, known, draw, fmt, \
-             fix, fill, explain, not with man",
+             fix, fill, test, explain, not with man",
         ),
         (
             "check --write a",
-            "--write goes with fmt, fix, fill, not with check",
+            "--write goes with fmt, fix, fill, test, not with check",
         ),
-        ("fill a b", "fill takes FILE, and 2 were given"),
+        ("test", "test takes FILE.., and 0 were given"),
         (
             "fmt --check --write a",
             "--check and --write do not go together",

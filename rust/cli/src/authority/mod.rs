@@ -26,7 +26,7 @@ mod stops;
 #[cfg(test)]
 mod tests;
 mod text;
-mod write;
+pub mod write;
 
 use crate::files::{self, complain, complain_of, Unread};
 use crate::misuse::Misuse;

@@ -33,7 +33,7 @@ pub fn write(file: &Path, text: &[u8]) -> Result<()> {
     let file = &target(file)?;
     let old = fs::metadata(file).ok();
     if file.is_dir() {
-        return Err(Error::other("a folder; name a file for the page"));
+        return Err(Error::other("a folder; name a file"));
     }
     if old.as_ref().is_some_and(|old| !old.is_file()) {
         return OpenOptions::new().write(true).open(file)?.write_all(text);

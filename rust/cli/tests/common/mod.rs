@@ -48,3 +48,25 @@ pub fn folder(name: &str) -> PathBuf {
     std::fs::create_dir_all(&folder).expect("a folder");
     folder
 }
+
+/// Is the program on this machine?
+pub fn is_here(program: &str) -> bool {
+    let tried = Command::new(program)
+        .arg("--version")
+        .stdout(Stdio::null())
+        .stderr(Stdio::null())
+        .status();
+    if tried.is_err() {
+        println!("no {program} here");
+    }
+    tried.is_ok()
+}
+
+/// The path with the command's folder first.
+pub fn path() -> std::ffi::OsString {
+    let station = Path::new(env!("CARGO_BIN_EXE_station"));
+    let mut path = station.parent().expect("a folder").as_os_str().to_owned();
+    path.push(":");
+    path.push(std::env::var_os("PATH").unwrap_or_default());
+    path
+}

@@ -141,10 +141,7 @@ fn where_a_page_can_not_be_written() {
     std::fs::write(&script, "main\nend\n").expect("a text");
     let below = folder.join("no/page.html");
     for (page, told) in [
-        (
-            name(&folder),
-            "a folder; name a file for the page; no page is written",
-        ),
+        (name(&folder), "a folder; name a file; no page is written"),
         (name(&below), "make it first; no page is written"),
         ("/dev/full", "no page is written"),
         (

@@ -22,11 +22,16 @@ pub fn reformatted(text: &[u8]) -> Option<Candidate> {
 /// Number 4.
 pub fn candidates(text: &[u8], draft: &Draft, at: usize) -> Vec<Candidate> {
     let mut found: Vec<Candidate> = stars::candidate(text, draft, at).into_iter().collect();
-    found.extend(reformatted(text));
     let bytes = draft.lines[at].join("\t");
-    match fault(bytes.as_bytes()) {
-        Some((place, fault)) => found.extend(fields::candidates(draft, at, place, fault)),
-        None => found.extend(misplaced(draft, at)),
+    let own = match fault(bytes.as_bytes()) {
+        Some((place, fault)) => fields::candidates(draft, at, place, fault),
+        None => misplaced(draft, at),
+    };
+    let form = reformatted(text).into_iter();
+    // One empty line is deleted, more are dropped with the form.
+    match bytes.is_empty() {
+        true => found.extend(own.into_iter().chain(form)),
+        false => found.extend(form.chain(own)),
     }
     found
 }

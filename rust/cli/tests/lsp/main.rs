@@ -1,138 +1,13 @@
 //! A client that speaks the language server protocol with `station lsp`.
 
+mod client;
+#[path = "../common/mod.rs"]
 mod common;
+mod hostile;
+mod names;
 
-use common::command;
-use explain::json::{parse, Json};
-use std::io::{BufRead, BufReader, Read, Write};
-use std::process::{Child, ChildStdin, ChildStdout};
-
-struct Client {
-    child: Child,
-    input: ChildStdin,
-    output: BufReader<ChildStdout>,
-    id: u32,
-}
-
-const URI: &str = "file:///a.script";
-
-impl Client {
-    fn start() -> Client {
-        let mut child = command(&["lsp"]).spawn().expect("station starts");
-        let input = child.stdin.take().expect("its input");
-        let output = BufReader::new(child.stdout.take().expect("its output"));
-        let mut client = Client {
-            child,
-            input,
-            output,
-            id: 0,
-        };
-        let found = client.ask("initialize", Json::object());
-        assert!(found.at(&["capabilities", "hoverProvider"]).is_some());
-        client.tell("initialized", Json::object());
-        client
-    }
-
-    fn send(&mut self, body: &str) {
-        let frame = format!("Content-Length: {}\r\n\r\n{body}", body.len());
-        self.input.write_all(frame.as_bytes()).expect("sent");
-    }
-
-    fn hear(&mut self) -> Json {
-        let mut length = 0;
-        loop {
-            let mut line = String::new();
-            self.output.read_line(&mut line).expect("a header");
-            match line.trim_end() {
-                "" => break,
-                line => {
-                    let value = line.strip_prefix("Content-Length: ").expect("a length");
-                    length = value.parse().expect("a number");
-                }
-            }
-        }
-        let mut body = vec![0; length];
-        self.output.read_exact(&mut body).expect("a body");
-        parse(std::str::from_utf8(&body).expect("UTF-8")).expect("JSON")
-    }
-
-    fn tell(&mut self, method: &str, params: Json) {
-        let message = Json::object()
-            .with("jsonrpc", "2.0")
-            .with("method", method)
-            .with("params", params);
-        self.send(&message.to_string());
-    }
-
-    /// The result of a request.
-    fn ask(&mut self, method: &str, params: Json) -> Json {
-        self.id += 1;
-        let message = Json::object()
-            .with("jsonrpc", "2.0")
-            .with("id", self.id)
-            .with("method", method)
-            .with("params", params);
-        self.send(&message.to_string());
-        let answer = self.hear();
-        assert_eq!(answer.get("id"), Some(&Json::Int(self.id.into())));
-        answer
-            .get("result")
-            .cloned()
-            .unwrap_or_else(|| panic!("{answer}"))
-    }
-
-    /// Opens the text: its diagnostics.
-    fn open(&mut self, text: &str) -> Vec<Json> {
-        let document = Json::object().with("uri", URI).with("text", text);
-        self.tell(
-            "textDocument/didOpen",
-            Json::object().with("textDocument", document),
-        );
-        self.diagnostics()
-    }
-
-    fn change(&mut self, text: &str) -> Vec<Json> {
-        let document = Json::object().with("uri", URI);
-        let changes = vec![Json::object().with("text", text)];
-        let params = Json::object()
-            .with("textDocument", document)
-            .with("contentChanges", changes);
-        self.tell("textDocument/didChange", params);
-        self.diagnostics()
-    }
-
-    fn diagnostics(&mut self) -> Vec<Json> {
-        let said = self.hear();
-        let method = said.get("method").and_then(Json::text);
-        assert_eq!(method, Some("textDocument/publishDiagnostics"));
-        match said.at(&["params", "diagnostics"]) {
-            Some(Json::List(found)) => found.clone(),
-            _ => panic!("no diagnostics: {said}"),
-        }
-    }
-
-    fn at(&mut self, method: &str, line: u32, column: u32) -> Json {
-        let position = Json::object().with("line", line).with("character", column);
-        let params = Json::object()
-            .with("textDocument", Json::object().with("uri", URI))
-            .with("position", position);
-        self.ask(method, params)
-    }
-
-    fn labels(&mut self, line: u32, column: u32) -> Vec<String> {
-        let Json::List(items) = self.at("textDocument/completion", line, column) else {
-            panic!("no list");
-        };
-        let label = |item: &Json| item.get("label").and_then(Json::text).map(str::to_string);
-        items.iter().filter_map(label).collect()
-    }
-
-    fn end(mut self) {
-        assert_eq!(self.ask("shutdown", Json::object()), Json::Null);
-        self.tell("exit", Json::object());
-        assert!(self.child.wait().expect("it ends").success());
-    }
-}
+use client::{Client, URI};
+use explain::json::Json;
 
 fn example(name: &str) -> String {
     let path = common::root().join("examples").join(name);
@@ -228,7 +103,7 @@ fn hover_definition_formatting() {
 fn completion_of_names_in_scope() {
     let mut client = Client::start();
     let text = "class\tCard\nfield\tCard\tprev\nfield\tint\ttag\nmethod\tint\tmark\tint\tk\nrequires\t\nensures\nend\n\
-                main\nvar\tCard\tc\nset\tc\t\ncall\tc\tc\t\nassert\teq\tc.\n\nnew\tc\t\n";
+                main\nvar\tCard\tc\nset\tc\t\ncall\tr\tc\t\nassert\teq\tc.\n\nnew\tc\t\nvar\tint\tr\n";
     client.open(text);
     let requires = ["acc", "read", "chain", "eq", "ne", "*"];
     assert_eq!(client.labels(4, 9), requires);
@@ -269,6 +144,7 @@ fn offered(client: &mut Client, line: u32) -> Vec<(String, String)> {
     let Json::List(found) = client.ask("textDocument/codeAction", params) else {
         panic!("no list");
     };
+    let fixes = found.iter().filter(|action| action.get("edit").is_some());
     let told = |action: &Json| {
         let title = action.get("title").and_then(Json::text).expect("a title");
         let Some(Json::List(edits)) = action.at(&["edit", "changes", URI]) else {
@@ -277,7 +153,7 @@ fn offered(client: &mut Client, line: u32) -> Vec<(String, String)> {
         let new = |edit: &Json| edit.get("newText").and_then(Json::text).map(str::to_string);
         (title.to_string(), edits.iter().filter_map(new).collect())
     };
-    found.iter().map(told).collect()
+    fixes.map(told).collect()
 }
 
 /// A `requires *`, and a permission that is not shown in a method: what fill gives is
@@ -311,50 +187,48 @@ fn requires_to_be_filled_in() {
     client.end();
 }
 
-const ASKED: [&str; 3] = [
-    "textDocument/hover",
-    "textDocument/completion",
-    "textDocument/definition",
-];
-
-/// What is no message or no request is answered or passed over.
+/// A diagnostic leads to what its number means: an address, and a command that
+/// shows it.
 #[test]
-fn hostile_messages() {
+fn what_a_number_means() {
     let mut client = Client::start();
-    let code = |answer: Json| answer.at(&["error", "code"]).and_then(Json::int);
-    client.send("{");
-    assert_eq!(code(client.hear()), Some(-32_700));
-    client.send("\"no object\"");
-    client.send("{\"method\":\"textDocument/didOpen\"}");
-    client.send("{\"id\":7,\"method\":\"no/such\"}");
-    assert_eq!(code(client.hear()), Some(-32_601));
-    for method in ASKED {
-        assert_eq!(client.at(method, 0, 0), Json::Null, "no document is open");
-    }
-    client.end();
-    // Without `shutdown` the status says so; input that ends is an end.
-    let mut child = command(&["lsp"]).spawn().expect("station starts");
-    drop(child.stdin.take());
-    assert_eq!(child.wait().expect("it ends").code(), Some(1));
-}
-
-/// Any text, and any place in it or beyond it.
-#[test]
-fn hostile_texts() {
-    let mut client = Client::start();
-    let mut texts: Vec<String> = ["", "\n\n", "main", "\t\t.\t\n"]
-        .map(str::to_string)
-        .to_vec();
-    texts.extend((0..40).map(|seed| String::from_utf8_lossy(&generator::text(seed)).into_owned()));
-    for text in texts {
-        client.open(&text);
-        for line in [0, 1, 7, u32::MAX] {
-            for column in [0, 3, 9, u32::MAX] {
-                for method in ASKED {
-                    client.at(method, line, column);
-                }
-            }
-        }
-    }
+    let found = client.open(&example("refused-12.script"));
+    let href = found[0]
+        .at(&["codeDescription", "href"])
+        .and_then(Json::text);
+    assert_eq!(href, Some("station:explain/12"));
+    let place = Json::object().with("line", 5u32).with("character", 0u32);
+    let range = Json::object()
+        .with("start", place.clone())
+        .with("end", place);
+    let asked = |only: &str| {
+        let context = Json::object().with("only", vec![only]);
+        Json::object()
+            .with("textDocument", Json::object().with("uri", URI))
+            .with("range", range.clone())
+            .with("context", context)
+    };
+    let none = client.ask("textDocument/codeAction", asked("refactor"));
+    assert_eq!(none, Json::List(Vec::new()));
+    let Json::List(actions) = client.ask("textDocument/codeAction", asked("quickfix")) else {
+        panic!("no list");
+    };
+    assert_eq!(actions[0].get("diagnostics"), Some(&Json::List(found)));
+    let action = actions.iter().find_map(|action| action.get("command"));
+    let action = action.expect("a command").clone();
+    // The message comes before the reply.
+    let message = Json::object()
+        .with("jsonrpc", "2.0")
+        .with("id", 99u32)
+        .with("method", "workspace/executeCommand")
+        .with("params", action);
+    client.send(&message.to_string());
+    let shown = client.hear();
+    let method = shown.get("method").and_then(Json::text);
+    assert_eq!(method, Some("window/showMessage"));
+    let text = shown.at(&["params", "message"]).and_then(Json::text);
+    let (explained, _, _) = common::said(&["explain", "12"], b"");
+    assert_eq!(text, Some(explained.as_str()));
+    assert_eq!(client.hear().get("result"), Some(&Json::Null));
     client.end();
 }
