@@ -118,6 +118,7 @@ async function activate(context) {
     const diagnostics = params.diagnostics.map((one) => {
       const diagnostic = new vscode.Diagnostic(range(one.range), one.message);
       diagnostic.code = one.code;
+      diagnostic.severity = one.severity - 1; // the protocol counts from 1
       diagnostic.source = one.source;
       return diagnostic;
     });

@@ -26,6 +26,9 @@ pub fn check(session: &mut Session) -> Status {
         if session.words.has(Flag::First) {
             report.further.clear();
         }
+        if session.words.has(Flag::Warn) {
+            report = report.warned(&mut session.library);
+        }
         match report.good() {
             true => accepted += 1,
             false => refused += 1,
@@ -37,6 +40,8 @@ pub fn check(session: &mut Session) -> Status {
             session.print(&show::short(&report));
         } else if !(report.good() && session.words.has(Flag::Quiet)) {
             session.print(&show::report(&report, session.paint));
+        } else {
+            session.print(&show::warnings(&report, session.paint));
         }
     }
     if many && !session.json() && !session.words.has(Flag::Short) && !session.words.has(Flag::Quiet)

@@ -35,6 +35,7 @@ pub enum Flag {
     Trial,
     Why,
     Short,
+    Warn,
     First,
     Quiet,
     Check,
@@ -328,6 +329,13 @@ pub const OPTIONS: &[OptionSpec] = &[
         "short",
         None,
         "one line for each refusal: FILE:LINE:COLUMN: what is wrong",
+        &[Command::Check],
+    ),
+    option(
+        Flag::Warn,
+        "warn",
+        None,
+        "also say what is never used, not needed or never reached",
         &[Command::Check],
     ),
     option(

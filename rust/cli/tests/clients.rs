@@ -157,7 +157,16 @@ fn the_extension_for_vs_code() {
         opened[0].at(&["range", "from"]),
         Some(&Json::from(vec![5, 4]))
     );
-    assert_eq!(answer.get("changed"), Some(&Json::List(Vec::new())));
+    // The editor counts from 0: an error, then a warning for the method that no line calls.
+    let severity = |one: &Json| one.get("severity").and_then(Json::int);
+    assert_eq!(
+        opened.iter().map(severity).collect::<Vec<_>>(),
+        [Some(0), Some(1)]
+    );
+    let Some(Json::List(changed)) = answer.get("changed") else {
+        panic!("no diagnostics: {answer}");
+    };
+    assert_eq!(changed.iter().map(severity).collect::<Vec<_>>(), [Some(1)]);
     let hover = answer
         .at(&["hover", "contents", "value"])
         .and_then(Json::text);

@@ -44,6 +44,7 @@ pub mod routes;
 pub mod script;
 pub mod show;
 pub mod trace;
+pub mod warn;
 
 pub use answers::{Answers, Model};
 pub use bound::Bounded;

@@ -4,6 +4,7 @@ use crate::all::Further;
 use crate::cause::Cause;
 use crate::report::{columns, Ran, Report};
 use crate::script::line;
+use crate::warn;
 use nuyardi::{explain, Ending, Excess, Explanation, Kind};
 use std::ffi::OsStr;
 use std::fmt::Write;
@@ -73,6 +74,11 @@ impl Paint {
     /// What is wrong.
     pub fn bad(self, text: &str) -> String {
         self.with("1;31", text)
+    }
+
+    /// What may be wrong.
+    pub fn warn(self, text: &str) -> String {
+        self.with("1;33", text)
     }
 
     /// What is right.
@@ -341,13 +347,24 @@ pub fn ending(report: &Report, paint: Paint) -> String {
     out
 }
 
-/// The answer of check, or of check and run.
+/// The answer of check, or of check and run; the warnings, if they were asked for.
 pub fn report(report: &Report, paint: Paint) -> String {
-    head(report, paint) + &ending(report, paint)
+    head(report, paint) + &ending(report, paint) + &warnings(report, paint)
 }
 
-/// One line for each refusal of a file, as editors and compilers want it.
+/// The warnings of a text.
+pub fn warnings(report: &Report, paint: Paint) -> String {
+    let warnings = report.warnings.as_deref().unwrap_or_default();
+    warn::shown(report.file, report.text, warnings, paint)
+}
+
+/// One line for each refusal and warning of a file, as editors and compilers want it.
 pub fn short(report: &Report) -> String {
+    let warnings = report.warnings.as_deref().unwrap_or_default();
+    short_refusals(report) + &warn::short(report.file, warnings)
+}
+
+fn short_refusals(report: &Report) -> String {
     let Some(refusal) = report.refusal else {
         return String::new();
     };

@@ -8,6 +8,7 @@ use explain::all::{further, readable};
 use explain::cause::{agreed, explained, form_of, Cause};
 use explain::fix::{filled_instead, fix, Fix, WHOLE};
 use explain::script::Script;
+use explain::warn::{warnings, Warning};
 use explain::{fmt, known, script, Json};
 use model::form::{line_or_kind, next_words, shape_of, AtomShape, Operand, Tail, ATOM_SHAPES};
 use model::text::Reader;
@@ -83,18 +84,40 @@ fn diagnostic(text: &str, number: u32, line: u32, why: Option<&Cause>) -> Json {
 /// What `station explain N` says, as an address.
 const GUIDE: &str = "station:explain/";
 
-/// The diagnostics of a text, the first that of the library; none if it is
-/// accepted.
+/// A warning as the protocol has it: its severity is 2, and its tag says that the
+/// place is not needed.
+fn warned(text: &str, warning: &Warning) -> Json {
+    let line = warning.line - 1;
+    let shown = line_of(text, line);
+    let mark = warning.mark.clone().unwrap_or(0..shown.len());
+    let range = range(line, column(shown, mark.start), column(shown, mark.end));
+    Json::object()
+        .with("range", range)
+        .with("severity", 2u32)
+        .with("code", warning.kind.name())
+        .with("source", "station")
+        .with("message", warning.text.as_str())
+        .with("tags", vec![1u32])
+}
+
+/// The diagnostics of a text: its refusals, then its warnings.
 pub fn diagnostics(text: &str) -> Json {
+    let found = warnings(&mut Library::default(), text.as_bytes());
+    let warned = found.iter().map(|warning| warned(text, warning));
+    Json::List(refusals(text).into_iter().chain(warned).collect())
+}
+
+/// The refusals of a text, the first that of the library; none if it is accepted.
+fn refusals(text: &str) -> Vec<Json> {
     let Err(refusal) = nuyardi::check(text.as_bytes()) else {
-        return Json::List(Vec::new());
+        return Vec::new();
     };
     let why = explained(&mut Library::default(), text.as_bytes(), refusal);
     let first = diagnostic(text, refusal.number(), refusal.line(), why.as_ref());
     let others = further(text.as_bytes()).into_iter();
     let others =
         others.map(|other| diagnostic(text, other.number, other.line, other.cause.as_ref()));
-    Json::List([first].into_iter().chain(others).collect())
+    [first].into_iter().chain(others).collect()
 }
 
 /// The fixes of the first refusal, as code actions where it touches the lines that
