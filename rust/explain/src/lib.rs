@@ -42,6 +42,7 @@ pub mod report;
 mod rounds;
 pub mod routes;
 pub mod script;
+mod second;
 pub mod show;
 pub mod trace;
 pub mod warn;

@@ -34,10 +34,12 @@ pub fn with_cause(object: Json, cause: Option<&Cause>) -> Json {
     };
     let columns = columns(Some(cause));
     object
+        .with("headline", cause.headline())
         .with("cause", cause.text.as_str())
         .with_some("column", columns.map(|columns| columns.0))
         .with_some("end", columns.map(|columns| columns.1))
         .with("notes", cause.notes.clone())
+        .with("related", cause.related())
         .with_some("help", cause.help.clone())
         .with_some("fix", cause.fix.as_ref().map(Fix::said))
 }
