@@ -38,7 +38,8 @@ extern "C" {
 #endif
 
 /* Check's answer, with cause, notes and fix where it refuses the text: the JSON
- * object that `station check --json -` prints. docs/LANGUAGE.md lists its fields. */
+ * object that `station check --warn --json -` prints, with the warnings of the text.
+ * docs/LANGUAGE.md lists its fields. */
 size_t nuyardi_explain(const uint8_t *text, size_t length,
                        char *out, size_t capacity);
 

@@ -34,7 +34,7 @@ def _answer(function: str, *words: Any) -> bytes:
 
 
 def explain(text: bytes) -> Dict[str, Any]:
-    """Check's answer, with cause, notes and fix where it refuses the text: the object that `station check --json -` prints."""
+    """Check's answer, with cause, notes and fix where it refuses the text, and the warnings: the object that `station check --warn --json -` prints."""
     said = script_bytes(text)
     answer: Dict[str, Any] = json.loads(_answer("nuyardi_explain", said, len(said)))
     return answer

@@ -17,12 +17,17 @@ pub fn check_one(session: &mut Session, name: &OsStr, text: &[u8]) -> Status {
     if session.words.has(Flag::First) {
         report.further.clear();
     }
+    if session.words.has(Flag::Warn) {
+        report = report.warned(&mut session.library);
+    }
     if session.json() {
         session.print_json(&objects::report(&report));
     } else if session.words.has(Flag::Short) {
         session.print(&show::short(&report));
     } else if !(report.good() && session.quiet()) {
         session.print(&show::report(&report, session.paint));
+    } else {
+        session.print(&show::warnings(&report, session.paint));
     }
     status(&report)
 }

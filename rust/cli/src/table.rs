@@ -37,6 +37,7 @@ pub enum Flag {
     Trial,
     Why,
     Short,
+    Warn,
     First,
     Quiet,
     Check,
@@ -347,6 +348,13 @@ pub const OPTIONS: &[OptionSpec] = &[
         "short",
         None,
         "one line for each refusal: FILE:LINE:COLUMN: what is wrong",
+        &[Command::Check],
+    ),
+    option(
+        Flag::Warn,
+        "warn",
+        None,
+        "also say what is never used, not needed or never reached",
         &[Command::Check],
     ),
     option(

@@ -96,26 +96,27 @@ fn refused_texts() {
 
 #[test]
 fn loops_and_rings() {
-    let no_bound = ": no bound, number 15: a loop, or a call that can lead back";
+    let no_bound = ": no bound, number 15: ";
     let methods = calls(&[("a", &["b"]), ("b", &["c"]), ("c", &["c", "a"])]);
     let ring = [
         "this call leads back to `a` of class S\n",
-        "   note: line 6, in `a`: `call r this b w`\n",
-        "   note: line 12, in `b`: `call r this c w`\n",
-        "   note: line 19, in `c`: `call r this a w`\n",
+        "   note: `a` calls `b` at line 6\n",
+        "   note: `b` calls `c` at line 12\n12 | call r this c w\n   | ---------------\n",
+        "   note: `c` calls `a` at line 19\n19 | call r this a w\n",
+        "   note: no bound for line 18 either, which leads back to `c` of class S\n",
         "   help: run it with as many steps as it may take",
     ];
     let itself = calls(&[("a", &["b"]), ("b", &["b"])]);
-    let never = "  cause: here `b` of class S calls itself\n\
-                 \x20  note: no call of main leads to `b` of class S\n\
+    let never = "\x20  note: no call of main leads to `b` of class S\n\
                  \x20  help: leave the method out, if nothing is to call it\n";
+    let itself_said = ["number 15: here `b` of class S calls itself\n", never];
     let looped = [
-        "  cause: how often the loop goes round shows in a run alone\n",
-        "   note: its rounds end at line 9: `again`\n",
+        "number 15: how often the loop goes round shows in a run alone\n",
+        "   note: its rounds end at line 9\n9 | again\n",
     ];
     for (methods, main, line, parts) in [
         (&methods[..], "call a s b b\n", 6, &ring[..]),
-        (&itself, "", 12, &[never]),
+        (&itself, "", 12, &itself_said),
         (&[], "loop ne a 3\nlet a 3\nagain\n", 7, &looped),
     ] {
         let (out, status) = bound(&script(methods, main));
@@ -133,7 +134,7 @@ fn loops_and_rings() {
 fn bounds_that_are_too_high() {
     let (out, _, status) = said(&["bound", "examples/refused-16.script"], b"");
     assert_eq!(status, 1);
-    let start = "examples/refused-16.script: no bound, number 16: a bound of more than ";
+    let start = "examples/refused-16.script: no bound, number 16: main's lines and calls ";
     assert!(out.starts_with(start), "{out}");
     for part in [
         "main's lines and calls come to 1,466,668 steps, and 1,000,000 are",

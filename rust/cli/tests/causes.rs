@@ -42,7 +42,8 @@ fn answers() {
     assert_eq!(kept, fresh);
 }
 
-/// Every refusal names its cause, and the marks stand in the line.
+/// The first line of every refusal names its cause, and not the number's row of the
+/// table.
 #[test]
 fn every_refusal_has_a_cause() {
     let mut refused = 0;
@@ -50,7 +51,15 @@ fn every_refusal_has_a_cause() {
         let (out, _, status) = said(&["check", &format!("{FOLDER}/{name}")], b"");
         if status == 1 {
             refused += 1;
-            assert!(out.contains("\n  cause: "), "{out}");
+            for line in out.lines().filter(|line| line.contains("refused, number ")) {
+                let (number, why) = line
+                    .split_once("number ")
+                    .and_then(|(_, rest)| rest.split_once(": "))
+                    .expect("a number and words");
+                let number = number.parse().expect("a number");
+                let known = nuyardi::explain(number).expect("it is explained");
+                assert!(!why.is_empty() && why != known.title, "{line}");
+            }
             assert!(!out.contains("   what: "), "{out}");
         }
     }

@@ -31,5 +31,8 @@ fn vim_makes_a_quickfix_list() {
         .status();
     assert!(status.is_ok());
     let list = std::fs::read_to_string(&out).expect("vim's list");
-    assert!(list.starts_with("6 5 12 `set` writes `this.n`"), "{list}");
+    assert!(
+        list.starts_with("6 5 12 nobody gave `m` of class S"),
+        "{list}"
+    );
 }

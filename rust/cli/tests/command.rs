@@ -153,12 +153,12 @@ fn causes_of_stops() {
         (
             method,
             "-:5: stopped after 3 steps, number 26: ",
-            "  cause: `eq result 8` of `ensures` (line 4) is false: `result` is 7\n",
+            "number 26: `eq result 8` of `ensures` (line 4) is false: `result` is 7\n",
         ),
         (
             below,
             "-:6: stopped after 2 steps, number 27: ",
-            "  cause: -2147483648 (`n`) less 1 (`one`) is -2147483649, and -2147483648 is\n         the least\n",
+            "number 27: -2147483648 (`n`) less 1 (`one`) is -2147483649, and -2147483648 is the least\n",
         ),
     ] {
         let (out, _, status) = said(&["trial", "-"], text.as_bytes());
@@ -183,27 +183,27 @@ fn causes_of_stops_at_loops() {
         (
             "new s S|loop ne i 3 acc s n eq s.n 0|add i i one|set s n i|again",
             "-:9: stopped after 6 steps, number 26: ",
-            "  cause: `eq s.n 0` of the invariant after a round is false: `s.n` is 1\n",
+            "number 26: `eq s.n 0` of the invariant after a round is false: `s.n` is 1\n",
         ),
         (
             "loop ne i 3 acc s n|again",
             "-:8: stopped after 1 step, number 25: ",
-            "  cause: `acc s n` of the invariant before the first round: `s` is null\n",
+            "number 25: `acc s n` of the invariant before the first round: `s` is null\n",
         ),
         (
             "new s S|release acc s n|loop ne i 3 acc s n|again",
             "-:10: stopped after 3 steps, number 24: ",
-            "  cause: `acc s n` of the invariant before the first round: main does not hold\n",
+            "number 24: `acc s n` of the invariant before the first round: main does not hold the field\n",
         ),
         (
             "loop ne s.n 3|again",
             "8 | loop ne s.n 3\n  |      ^^^^^^^^\n",
-            "  cause: `s.n` follows `s`, which is null\n",
+            "number 25: `s.n` follows `s`, which is null\n",
         ),
         (
             "new s S|release acc s n|loop ne s.n 3|again",
             "-:10: stopped after 3 steps, number 24: ",
-            "  cause: main does not hold `s.n`\n",
+            "number 24: main does not hold `s.n`\n",
         ),
     ] {
         let (out, _, status) = said(&["trial", "-"], &with_loop(lines));
@@ -219,16 +219,16 @@ fn loops_without_end() {
     for (lines, cause) in [
         (
             "loop ne i 3|again",
-            "  cause: the loop of line 8 has done 499 rounds, and it never ends: a round\n         changes nothing\n   note: no line of the body changes `i`, which the condition reads\n   note: in its last round `i` stayed 0\n   help: let the body change what `ne i 3` reads\n",
+            "   note: no line of the body changes `i`, which the condition reads\n   note: in its last round `i` stayed 0\n8 | loop ne i 3\n  | -----------\n   help: let the body change what `ne i 3` reads\n",
         ),
         (
             "loop ne i -1|add i i one|again",
-            "  cause: the loop of line 8 has done 333 rounds, and `ne i -1` is not false\n         yet\n",
+            "number 21: the loop of line 8 has done 333 rounds, and `ne i -1` is not false yet\n",
         ),
         // The inner loop ends each time, the outer one does not.
         (
             "loop ne one 0|let i 0|loop ne i 2|add i i one|again|again",
-            "  cause: the loop of line 8 has done 99 rounds, and it never ends: a round\n         changes nothing\n",
+            "number 21: the loop of line 8 has done 99 rounds, and it never ends: a round changes nothing\n",
         ),
     ] {
         let (out, _, status) = said(&["run", "-"], &with_loop(lines));
@@ -284,9 +284,9 @@ fn run_checks_first() {
         }
     }
     let head =
-        "examples/lost.script:15: check refuses it, number 12: a permission that is not shown\n";
+        "examples/lost.script:15: check refuses it, number 12: `lose`, called at line 14, did not give the permission to `c.tag` back\n";
     let stop =
-        "examples/lost.script:15: stopped after 3 steps, number 24: a permission is missing\n";
+        "examples/lost.script:15: stopped after 3 steps, number 24: main does not hold `c.tag`\n";
     let (out, _, _) = said(&["trial", "examples/lost.script"], b"");
     assert!(out.starts_with(&format!("{head}{stop}")), "{out}");
     let (out, _, _) = said(&["trace", "--trial", "examples/lost.script"], b"");
@@ -347,7 +347,7 @@ fn long_input() {
     let (out, _, status) = said(&["check", "-"], &vec![b'\n'; 1 << 20]);
     assert_eq!(status, 1);
     assert!(
-        out.starts_with("-: refused, number 2: a text that is too long\n"),
+        out.starts_with("-: refused, number 2: the text has more than 32768 bytes"),
         "{out}"
     );
     let (out, error, status) = said(&["fmt", "-"], &vec![b'a'; 32_769]);

@@ -93,8 +93,8 @@ fn a_share_that_is_full() {
     let (out, _, status) = said(&["count", "--shares", "3,253", NORTH, SOUTH], b"");
     assert_eq!(status, 1);
     for part in [
-        "north.script:12: stopped after 27 steps, number 22: the heap is full\n",
-        "  cause: 3 objects with 6 fields are made already, and the share has 3 with 12\n",
+        "north.script:12: stopped after 27 steps, number 22: the heap is full: 3 objects with 6 \
+         fields are made already, and the share has 3 with 12\n",
         "south.script:22: finished after 14 steps\n",
     ] {
         assert!(out.contains(part), "{part} in {out}");
@@ -106,18 +106,18 @@ fn not_counted() {
     for (shares, cause) in [
         (
             "0,256",
-            "  cause: the share of `examples/north.script` is 0\n",
+            "number 19: the share of `examples/north.script` is 0\n",
         ),
-        ("256,1", "  cause: the shares are 257 together\n"),
+        ("256,1", "number 19: the shares are 257 together\n"),
         (
             "4294967295,4294967295",
-            "  cause: the shares are 8,589,934,590 together\n",
+            "number 19: the shares are 8,589,934,590 together\n",
         ),
     ] {
         let (out, error, status) = said(&["count", "--shares", shares, NORTH, SOUTH], b"");
         assert_eq!((error.as_str(), status), ("", 1));
         assert!(
-            out.starts_with("not counted, number 19: a count without scripts"),
+            out.starts_with("not counted, number 19: the share"),
             "{out}"
         );
         assert!(out.contains(cause), "{cause} in {out}");

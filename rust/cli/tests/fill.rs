@@ -97,7 +97,13 @@ fn not_filled_in() {
             &[":10: refused, number 6: ", "did you mean `one`?"],
         ),
         (unplaced, &[":2: refused, number 4: ", "2 | requires *"]),
-        (&long, &[": refused, number 2: ", "32768 are the most"]),
+        (
+            &long,
+            &[
+                ": refused, number 2: the text has more than 32768 bytes",
+                "32768 are the most",
+            ],
+        ),
     ] {
         let (file, name) = written("not-filled", text.as_bytes());
         for words in [&["fill", &name][..], &["fill", "--write", &name]] {
@@ -171,7 +177,8 @@ fn too_long_when_filled_in() {
             true => assert!(nuyardi::check(&std::fs::read(&file).expect("the file")).is_ok()),
             false => {
                 assert!(
-                    out.contains(": refused, number 2: a text that is too long"),
+                    out.contains(": refused, number 2: the text has ")
+                        && out.contains(" bytes, and 32768 are the most"),
                     "{out}"
                 );
                 untouched(&file, text.as_bytes());

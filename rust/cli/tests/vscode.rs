@@ -148,6 +148,12 @@ fn the_extension_for_vs_code() {
         opened[0].at(&["range", "from"]),
         Some(&Json::from(vec![5, 4]))
     );
+    // The editor counts from 0: an error, then a warning for the method that no line calls.
+    let severities = |found: &[Json]| -> Vec<_> {
+        let severity = |one: &Json| one.get("severity").and_then(Json::int);
+        found.iter().map(severity).collect()
+    };
+    assert_eq!(severities(opened), [Some(0), Some(1)]);
     let (explained, _, _) = common::said(&["explain", "12"], b"");
     assert_eq!(text(&answer, &["explained"]), explained);
     let actions = list(&answer, "actions");
@@ -157,7 +163,7 @@ fn the_extension_for_vs_code() {
     );
     let last = actions.last().expect("an action");
     assert_eq!(text(last, &["command", "command"]), "station.explain");
-    assert!(list(&answer, "changed").is_empty());
+    assert_eq!(severities(list(&answer, "changed")), [Some(1)]);
     let hover = text(&answer, &["hover", "contents", "value"]);
     assert!(hover.contains("acc this n"), "{answer}");
     assert_eq!(

@@ -84,7 +84,8 @@ fn report(text: &[u8], asked: Asked) -> Report<'_> {
 }
 
 fn check_said(text: &[u8], _: u32) -> String {
-    objects::report(&report(text, Asked::Check)).to_string()
+    let report = report(text, Asked::Check).warned(&mut Station::new());
+    objects::report(&report).to_string()
 }
 
 fn run_said(text: &[u8], steps: u32) -> String {
@@ -108,7 +109,8 @@ fn picture_said(text: &[u8], steps: u32) -> String {
     draw::picture(&report(text, Asked::Run(steps))).unwrap_or_default()
 }
 
-/// Check's answer and why, as JSON: what `station check --json -` prints.
+/// Check's answer and why, and warnings, as JSON: what `station check --warn --json -`
+/// prints.
 ///
 /// # Safety
 ///

@@ -65,7 +65,7 @@ fn texts() -> Vec<Vec<u8>> {
 fn expected(text: &[u8]) -> String {
     let text = &text[..text.len().min(limits::TEXT_BYTES + 1)];
     let mut station = Station::new();
-    let checked = Report::of(&mut station, "-", text, Asked::Check);
+    let checked = Report::of(&mut station, "-", text, Asked::Check).warned(&mut Station::new());
     let ran = Report::of(&mut station, "-", text, Asked::Run(STEPS));
     let (check, run) = (objects::report(&checked), objects::report(&ran));
     let made = ran.ran.as_ref();

@@ -7,7 +7,7 @@ use crate::objects;
 use crate::report::{Asked, Report};
 use crate::routes::{Leg, Routes};
 use crate::script::{quoted, Script};
-use crate::show::{self, counted, grouped, wrapped, Paint};
+use crate::show::{self, counted, grouped, wrapped, Paint, Shown};
 use crate::Answers;
 use nuyardi::{limits, Bound, Excess, NoBound};
 use std::fmt::Write;
@@ -55,10 +55,12 @@ impl<'a> Bounded<'a> {
             Ok(bound) => given(&mut out, self.file, bound, paint),
             Err(NoBound::Accepted { excess, line }) => {
                 let (place, number) = (show::place(self.file, line), excess.number());
-                let (said, title) = (paint.bad("no bound"), show::title(number));
-                let _ = writeln!(out, "{place}: {said}, number {number}: {title}");
+                let cause = self.cause.as_ref();
+                let (said, why) = (paint.bad("no bound"), show::headline(number, cause));
+                let _ = writeln!(out, "{place}: {said}, number {number}: {why}");
                 show::snippet(&mut out, paint, self.text, line, None);
-                show::reasons(&mut out, number, self.cause.as_ref());
+                let mut shown = Shown::at(self.text, line, paint);
+                show::reasons(&mut out, &mut shown, number, cause);
             }
             Err(_) => {}
         }

@@ -4,7 +4,7 @@ use crate::cause::Cause;
 use crate::json::Json;
 use crate::objects;
 use crate::report::Report;
-use crate::show::{self, counted, grouped, Paint};
+use crate::show::{self, counted, grouped, Paint, Shown};
 use crate::Answers;
 use nuyardi::limits::{OBJECTS, SCRIPTS};
 use nuyardi::{NotCounted, Outcome, Share};
@@ -62,8 +62,10 @@ impl<'a> Counting<'a> {
             }
             Err(none) => {
                 let (said, number) = (paint.bad("not counted"), none.number());
-                let _ = writeln!(out, "{said}, number {number}: {}", show::title(number));
-                show::reasons(&mut out, number, Some(&self.cause()));
+                let cause = self.cause();
+                let _ = writeln!(out, "{said}, number {number}: {}", cause.headline());
+                let mut shown = Shown::at(&[], 0, paint);
+                show::reasons(&mut out, &mut shown, number, Some(&cause));
             }
         }
         out

@@ -3,7 +3,7 @@
 use crate::cause::{fill_cause, Cause};
 use crate::json::Json;
 use crate::objects;
-use crate::show::{self, counted, Paint};
+use crate::show::{self, counted, Paint, Shown};
 use crate::Answers;
 use nuyardi::limits::TEXT_BYTES;
 use nuyardi::{Filled, NotFilled};
@@ -42,15 +42,13 @@ impl<'a> Filling<'a> {
             NotFilled::Refused(_) => "refused",
             _ => "not filled in",
         };
-        let (place, title) = (show::place(self.file, line), show::title(number));
-        let _ = writeln!(
-            out,
-            "{place}: {}, number {number}: {title}",
-            paint.bad(said)
-        );
+        let (place, why) = (show::place(self.file, line), self.cause.as_ref());
+        let why = show::headline(number, why);
+        let _ = writeln!(out, "{place}: {}, number {number}: {why}", paint.bad(said));
         let mark = self.cause.as_ref().and_then(|cause| cause.mark.clone());
         show::snippet(&mut out, paint, self.text, line, mark);
-        show::reasons(&mut out, number, self.cause.as_ref());
+        let mut shown = Shown::at(self.text, line, paint);
+        show::reasons(&mut out, &mut shown, number, self.cause.as_ref());
         out
     }
 

@@ -74,8 +74,27 @@ fn looked_at(text: &[u8], asked: Asked) -> u32 {
     ran
 }
 
+/// The warnings stand in lines of the text, and are shown whole.
+fn warned(text: &[u8]) {
+    let report = Report::of(&mut Model, "a", text, Asked::Check).warned(&mut Model);
+    for warning in report.warnings.iter().flatten() {
+        let length = line(text, warning.line).map(<[u8]>::len);
+        let mark = warning.mark.clone().unwrap_or_default();
+        assert!(
+            length.is_some_and(|length| mark.end <= length),
+            "{warning:?}"
+        );
+        assert!(show::short(&report).contains(&warning.text));
+    }
+    let object = objects::report(&report).to_string();
+    assert!(crate::json::parse(&object).is_some(), "{object}");
+}
+
 #[test]
 fn texts_of_every_kind() {
+    for seed in 0..300 {
+        warned(&generator::text(0x6100_0000 + seed));
+    }
     for seed in 0..1_500 {
         let steps = [0, 1, 7, 100, 1_000][seed as usize % 5];
         looked_into(&generator::text(0x6000_0000 + seed), steps);
@@ -91,6 +110,7 @@ fn texts_of_every_kind() {
         b"if\teq\t0\t0\n",
     ] {
         looked_into(text, 10);
+        warned(text);
     }
 }
 

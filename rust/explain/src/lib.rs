@@ -42,8 +42,10 @@ pub mod report;
 mod rounds;
 pub mod routes;
 pub mod script;
+mod second;
 pub mod show;
 pub mod trace;
+pub mod warn;
 
 pub use answers::{Answers, Model};
 pub use bound::Bounded;

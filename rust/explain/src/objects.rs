@@ -6,6 +6,7 @@ use crate::json::Json;
 use crate::report::{columns, Asked, Ran, Report};
 use crate::script::line;
 use crate::show::escaped;
+use crate::warn;
 use nuyardi::{explain, Explanation, Value};
 
 /// A line of the text, its bytes escaped.
@@ -33,10 +34,12 @@ pub fn with_cause(object: Json, cause: Option<&Cause>) -> Json {
     };
     let columns = columns(Some(cause));
     object
+        .with("headline", cause.headline())
         .with("cause", cause.text.as_str())
         .with_some("column", columns.map(|columns| columns.0))
         .with_some("end", columns.map(|columns| columns.1))
         .with("notes", cause.notes.clone())
+        .with("related", cause.related())
         .with_some("help", cause.help.clone())
         .with_some("fix", cause.fix.as_ref().map(Fix::said))
 }
@@ -72,8 +75,12 @@ pub fn check(object: Json, report: &Report) -> Json {
     let fix = report.cause.as_ref().and_then(|cause| cause.fix.as_ref());
     let object = object.with_some("edits", fix.map(|fix| edits(report.text, fix)));
     let object = object.with_some("note", report.formatted.clone());
+    let warnings = report.warnings.as_ref();
+    let warnings = warnings.map(|warnings| warn::json(report.text, warnings));
     match report.asked {
-        Asked::Check => object.with("refusals", refusals(report)),
+        Asked::Check => object
+            .with("refusals", refusals(report))
+            .with_some("warnings", warnings),
         _ => object,
     }
 }

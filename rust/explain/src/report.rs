@@ -4,6 +4,7 @@
 use crate::all::{further, Further};
 use crate::cause::{cause, explained, open_calls, stop_cause, Cause};
 use crate::fmt::formatted;
+use crate::warn::{warnings, Warning};
 use crate::Answers;
 use model::machine::Room;
 use nuyardi::{Ending, Kind, Outcome, Refusal, Share};
@@ -38,6 +39,8 @@ pub struct Report<'a> {
     pub further: Vec<Further>,
     /// What check says of the text as `fmt` gives it, where that may help.
     pub formatted: Option<String>,
+    /// The warnings, if they were asked for.
+    pub warnings: Option<Vec<Warning>>,
     /// None if the text was not run.
     pub ran: Option<Ran<'a>>,
 }
@@ -167,7 +170,16 @@ impl<'a> Report<'a> {
                 _ => Vec::new(),
             },
             formatted: refusal.and_then(|refusal| after_fmt(answers, text, refusal)),
+            warnings: None,
             ran,
+        }
+    }
+
+    /// The same with the warnings of the text.
+    pub fn warned(self, answers: &mut impl Answers) -> Report<'a> {
+        Report {
+            warnings: Some(warnings(answers, self.text)),
+            ..self
         }
     }
 

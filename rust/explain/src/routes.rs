@@ -29,6 +29,36 @@ pub struct Leg {
     pub bound: u128,
 }
 
+/// Why a line leaves no bound.
+#[derive(Clone, Debug, PartialEq, Eq)]
+pub enum Why {
+    /// A `loop`, and the line of its `again`.
+    Loop(u32),
+    /// A call that leads back to its own method, and the lines of the calls that
+    /// lead on from it.
+    Ring(Vec<u32>),
+}
+
+/// Every line that leaves no bound, by the place of its statement, in the order of
+/// the text.
+pub fn unbounded(script: &Script, routes: &Routes) -> Vec<(usize, Why)> {
+    let statements = script.program.statements.iter().enumerate();
+    let found = statements.filter_map(|(place, statement)| {
+        let block = script.block_of(place);
+        let why = match &statement.action {
+            Action::Loop(rounds) => Why::Loop(script.program.statements[rounds.again].line),
+            Action::Call(call) if call.method == block => Why::Ring(Vec::new()),
+            Action::Call(call) => {
+                let back = routes.way(call.method, block)?;
+                Why::Ring(back.iter().map(|call| call.line).collect())
+            }
+            _ => return None,
+        };
+        Some((place, why))
+    });
+    found.collect()
+}
+
 /// The calls of each block.
 pub struct Routes {
     own: Vec<u128>,

@@ -4,6 +4,8 @@ use crate::all::Further;
 use crate::cause::Cause;
 use crate::report::{columns, Ran, Report};
 use crate::script::line;
+use crate::second;
+use crate::warn;
 use nuyardi::{explain, Ending, Excess, Explanation, Kind};
 use std::ffi::OsStr;
 use std::fmt::Write;
@@ -73,6 +75,11 @@ impl Paint {
     /// What is wrong.
     pub fn bad(self, text: &str) -> String {
         self.with("1;31", text)
+    }
+
+    /// What may be wrong.
+    pub fn warn(self, text: &str) -> String {
+        self.with("1;33", text)
     }
 
     /// What is right.
@@ -201,14 +208,61 @@ fn number_in_words(out: &mut String, known: &Explanation) {
 /// with its cause.
 const FIRST_OF_ACCEPTED: u32 = Excess::Unbounded.number();
 
-/// The cause, or the number in words where none is seen.
-pub fn reasons(out: &mut String, number: u32, cause: Option<&Cause>) {
+/// What the first line of a message says: the cause, or the number in a few words
+/// where none is seen.
+pub fn headline(number: u32, cause: Option<&Cause>) -> &str {
+    cause.map_or(title(number), Cause::headline)
+}
+
+/// A message of a line, as it is shown: the text, the line that it is about, and the
+/// others that were shown already.
+pub struct Shown<'t> {
+    text: &'t [u8],
+    paint: Paint,
+    seen: Vec<u32>,
+    width: usize,
+}
+
+impl<'t> Shown<'t> {
+    /// The message of a line.
+    pub fn at(text: &'t [u8], line: u32, paint: Paint) -> Shown<'t> {
+        Shown {
+            text,
+            paint,
+            seen: vec![line],
+            width: line.to_string().len(),
+        }
+    }
+
+    /// A part of the message, and the lines that it names.
+    fn part(&mut self, out: &mut String, heading: &str, said: &str) {
+        wrapped(out, heading, &second::without_quotes(said, self.text));
+        self.lines(out, said);
+    }
+
+    /// The lines that a part names and that were not shown yet.
+    fn lines(&mut self, out: &mut String, said: &str) {
+        let mut lines = second::named(said);
+        lines.retain(|line| !self.seen.contains(line));
+        let longest = lines.iter().map(|line| line.to_string().len()).max();
+        self.width = self.width.max(longest.unwrap_or(0));
+        second::lines(out, self.paint, self.text, &lines, self.width);
+        self.seen.extend(lines);
+    }
+}
+
+/// The cause, if the headline is not all of it, what else is known and what helps; or
+/// the number in words where no cause is seen.
+pub fn reasons(out: &mut String, shown: &mut Shown, number: u32, cause: Option<&Cause>) {
     match (cause, explain(number)) {
         (Some(cause), _) => {
-            wrapped(out, "  cause: ", &cause.text);
-            for note in &cause.notes {
-                wrapped(out, "   note: ", note);
+            if cause.head.is_some() {
+                shown.part(out, "  cause: ", &cause.text);
             }
+            for note in &cause.notes {
+                shown.part(out, "   note: ", note);
+            }
+            shown.lines(out, cause.headline());
             if let Some(fix) = &cause.fix {
                 wrapped(out, "    fix: ", &fix.said());
             }
@@ -248,12 +302,13 @@ fn refusal(out: &mut String, paint: Paint, report: &Report) {
         "{}: {}, number {number}: {}",
         place(report.file, line),
         paint.bad(said),
-        title(number)
+        headline(number, report.cause.as_ref())
     );
     if !tried {
         let mark = report.cause.as_ref().and_then(|cause| cause.mark.clone());
         snippet(out, paint, report.text, line, mark);
-        reasons(out, number, report.cause.as_ref());
+        let mut shown = Shown::at(report.text, line, paint);
+        reasons(out, &mut shown, number, report.cause.as_ref());
         let fixed = report
             .cause
             .as_ref()
@@ -275,11 +330,12 @@ fn further(out: &mut String, paint: Paint, report: &Report, other: &Further) {
         place(report.file, other.line),
         paint.bad("also refused"),
         other.number,
-        title(other.number)
+        headline(other.number, other.cause.as_ref())
     );
     let mark = other.cause.as_ref().and_then(|cause| cause.mark.clone());
     snippet(out, paint, report.text, other.line, mark);
-    reasons(out, other.number, other.cause.as_ref());
+    let mut shown = Shown::at(report.text, other.line, paint);
+    reasons(out, &mut shown, other.number, other.cause.as_ref());
 }
 
 fn ran(out: &mut String, paint: Paint, report: &Report, ran: &Ran) {
@@ -293,14 +349,15 @@ fn ran(out: &mut String, paint: Paint, report: &Report, ran: &Ran) {
         let finished = paint.good("finished");
         let _ = writeln!(out, "{place}: {finished} after {steps}");
     } else {
-        let (stopped, title) = (paint.bad("stopped"), title(number));
+        let (stopped, why) = (paint.bad("stopped"), headline(number, ran.cause.as_ref()));
         let _ = writeln!(
             out,
-            "{place}: {stopped} after {steps}, number {number}: {title}"
+            "{place}: {stopped} after {steps}, number {number}: {why}"
         );
         let mark = ran.cause.as_ref().and_then(|cause| cause.mark.clone());
         snippet(out, paint, report.text, line, mark);
-        reasons(out, number, ran.cause.as_ref());
+        let mut shown = Shown::at(report.text, line, paint);
+        reasons(out, &mut shown, number, ran.cause.as_ref());
         for call in shortened(&ran.open) {
             wrapped(out, "   open: ", &call);
         }
@@ -341,26 +398,37 @@ pub fn ending(report: &Report, paint: Paint) -> String {
     out
 }
 
-/// The answer of check, or of check and run.
+/// The answer of check, or of check and run; the warnings, if they were asked for.
 pub fn report(report: &Report, paint: Paint) -> String {
-    head(report, paint) + &ending(report, paint)
+    head(report, paint) + &ending(report, paint) + &warnings(report, paint)
 }
 
-/// One line for each refusal of a file, as editors and compilers want it.
+/// The warnings of a text.
+pub fn warnings(report: &Report, paint: Paint) -> String {
+    let warnings = report.warnings.as_deref().unwrap_or_default();
+    warn::shown(report.file, report.text, warnings, paint)
+}
+
+/// One line for each refusal and warning of a file, as editors and compilers want it.
 pub fn short(report: &Report) -> String {
+    let warnings = report.warnings.as_deref().unwrap_or_default();
+    short_refusals(report) + &warn::short(report.file, warnings)
+}
+
+fn short_refusals(report: &Report) -> String {
     let Some(refusal) = report.refusal else {
         return String::new();
     };
     let column = columns(report.cause.as_ref()).map_or(1, |(from, _)| from);
     let number = refusal.number();
     let cause = report.cause.as_ref();
-    let said = cause.map_or(title(number), |cause| cause.text.as_str());
+    let said = headline(number, cause);
     let line = refusal.line().max(1);
     let mut out = format!("{}:{line}:{column}: number {number}: {said}\n", report.file);
     for other in &report.further {
         let column = columns(other.cause.as_ref()).map_or(1, |(from, _)| from);
         let cause = other.cause.as_ref();
-        let said = cause.map_or(title(other.number), |cause| cause.text.as_str());
+        let said = headline(other.number, cause);
         let (line, number) = (other.line.max(1), other.number);
         let _ = writeln!(
             out,

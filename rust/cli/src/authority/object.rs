@@ -5,12 +5,13 @@ use super::claims::{Theorem, ASSUMED};
 use super::findings::Findings;
 use super::identity::build;
 use super::methods::Row;
-use super::reasons::{Reason, Why};
+use super::reasons::Reason;
 use super::said::plain;
 use super::stops::{self, Basis, StopRow, Verdict};
 use explain::json::Json;
 use explain::objects;
 use explain::routes::Leg;
+use explain::routes::Why;
 use nuyardi::NoBound;
 
 fn theorem(theorem: &Theorem) -> Json {

@@ -5,21 +5,11 @@ use super::answers;
 use super::methods::block_name;
 use super::said::{self, code, text, Piece, Said};
 use explain::cause::AGAIN;
-use explain::routes::Routes;
+use explain::routes::{unbounded, Routes, Why};
 use explain::script::{quoted, Script};
 use explain::show::{counted, title};
 use model::machine::{Machine, Step};
-use model::names::{Action, Statement};
 use nuyardi::{limits, Outcome, Stop};
-
-/// Why a line leaves no bound.
-pub enum Why {
-    /// A `loop`, and the line of its `again`.
-    Loop(u32),
-    /// A call that leads back to its own method, and the lines of the calls that
-    /// lead on from it.
-    Ring(Vec<u32>),
-}
 
 /// A line that leaves no bound.
 pub struct Reason {
@@ -102,18 +92,6 @@ fn covers(why: &Why, own: u32, line: u32) -> bool {
     }
 }
 
-fn why(script: &Script, routes: &Routes, block: usize, statement: &Statement) -> Option<Why> {
-    match &statement.action {
-        Action::Loop(rounds) => Some(Why::Loop(script.program.statements[rounds.again].line)),
-        Action::Call(call) if call.method == block => Some(Why::Ring(Vec::new())),
-        Action::Call(call) => {
-            let back = routes.way(call.method, block)?;
-            Some(Why::Ring(back.iter().map(|call| call.line).collect()))
-        }
-        _ => None,
-    }
-}
-
 /// How often each statement is done in so many steps.
 pub fn times(script: &Script, steps: u32) -> Option<Vec<u64>> {
     let mut times = vec![0; script.program.statements.len()];
@@ -135,20 +113,19 @@ pub fn reasons(script: &Script, outcome: Option<&Outcome>) -> Vec<Reason> {
     let times = outcome.and_then(|outcome| times(script, outcome.steps()));
     let stop = outcome.filter(|outcome| !outcome.finished());
     let stop = stop.map(|outcome| (outcome.number(), outcome.line()));
-    let statements = script.program.statements.iter().enumerate();
-    let found = statements.filter_map(|(place, statement)| {
+    let found = unbounded(script, &routes).into_iter().map(|(place, why)| {
+        let line = script.program.statements[place].line;
         let block = script.block_of(place);
-        let why = why(script, &routes, block, statement)?;
         let called = routes.is_called(block);
-        Some(Reason {
-            line: statement.line,
-            text: quoted(script.text, statement.line),
+        Reason {
+            line,
+            text: quoted(script.text, line),
             block: block_name(script, block),
-            stop: stop.filter(|(_, line)| called && covers(&why, statement.line, *line)),
+            stop: stop.filter(|(_, at)| called && covers(&why, line, *at)),
             why,
             called,
             times: times.as_ref().map(|times| times[place]),
-        })
+        }
     });
     found.collect()
 }

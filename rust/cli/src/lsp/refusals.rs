@@ -1,5 +1,5 @@
-//! The refusals of a text as diagnostics, the fixes that were tried as code
-//! actions, and what a number means.
+//! The refusals and warnings of a text as diagnostics, the fixes that were tried
+//! as code actions, and what a number means.
 
 use super::places::{column, line_of, position, range};
 use crate::library::Library;
@@ -7,6 +7,7 @@ use explain::all::further;
 use explain::cause::{agreed, explained, Cause};
 use explain::fix::{filled_instead, fix, Fix, WHOLE};
 use explain::show::{explanation, Paint};
+use explain::warn::{warnings, Warning};
 use explain::{fmt, Json};
 use nuyardi::{Kind, Refusal};
 
@@ -65,12 +66,29 @@ fn diagnostic(text: &str, number: u32, line: u32, why: Option<&Cause>) -> Diagno
     }
 }
 
-/// What is found in a text: its refusals, the first that of the library, and the
-/// fixes of the first that were tried.
+/// A warning as the protocol has it: its severity is 2, and its tag says that the
+/// place is not needed.
+fn warned(text: &str, warning: &Warning) -> Json {
+    let line = warning.line - 1;
+    let shown = line_of(text, line);
+    let mark = warning.mark.clone().unwrap_or(0..shown.len());
+    let range = range(line, column(shown, mark.start), column(shown, mark.end));
+    Json::object()
+        .with("range", range)
+        .with("severity", 2u32)
+        .with("code", warning.kind.name())
+        .with("source", "station")
+        .with("message", warning.text.as_str())
+        .with("tags", vec![1u32])
+}
+
+/// What is found in a text: its refusals, the first that of the library, the
+/// fixes of the first that were tried, and its warnings.
 #[derive(Default)]
 pub struct Found {
     diagnostics: Vec<Diagnostic>,
     fixes: Vec<Fix>,
+    warnings: Vec<Json>,
 }
 
 /// For a permission that is not shown in a method: its `requires` as fill gives it.
@@ -89,8 +107,13 @@ pub fn whole(text: &str) -> Option<Fix> {
 impl Found {
     pub fn of(text: &str) -> Found {
         let bytes = text.as_bytes();
+        let found = warnings(&mut Library::default(), bytes);
+        let warnings = found.iter().map(|warning| warned(text, warning)).collect();
         let Err(refusal) = nuyardi::check(bytes) else {
-            return Found::default();
+            return Found {
+                warnings,
+                ..Found::default()
+            };
         };
         let why = explained(&mut Library::default(), bytes, refusal);
         let first = diagnostic(text, refusal.number(), refusal.line(), why.as_ref());
@@ -101,13 +124,14 @@ impl Found {
         Found {
             diagnostics: [first].into_iter().chain(others).collect(),
             fixes: one.chain(filled(bytes, refusal)).collect(),
+            warnings,
         }
     }
 
-    /// All diagnostics of the text.
+    /// All diagnostics of the text: its refusals, then its warnings.
     pub fn diagnostics(&self) -> Json {
-        let all = self.diagnostics.iter();
-        Json::List(all.map(|one| one.shown.clone()).collect())
+        let refusals = self.diagnostics.iter().map(|one| one.shown.clone());
+        Json::List(refusals.chain(self.warnings.iter().cloned()).collect())
     }
 
     /// The fixes of the first refusal where it touches the lines that are asked

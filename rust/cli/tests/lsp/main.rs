@@ -18,8 +18,12 @@ fn example(name: &str) -> String {
 fn diagnostics_as_one_types() {
     let mut client = Client::start();
     let found = client.open(&example("refused-12.script"));
-    assert_eq!(found.len(), 1);
-    assert_eq!(found[0].get("code"), Some(&Json::Int(12)));
+    let codes = |found: &[Json]| -> Vec<Option<Json>> {
+        found.iter().map(|one| one.get("code").cloned()).collect()
+    };
+    // Its method is called by no line, which is a warning.
+    let unused = Some(Json::Text("unused-method".to_string()));
+    assert_eq!(codes(&found), [Some(Json::Int(12)), unused.clone()]);
     assert_eq!(
         found[0].at(&["range", "start", "line"]),
         Some(&Json::Int(5))
@@ -41,7 +45,7 @@ fn diagnostics_as_one_types() {
         "{message}"
     );
     let mended = example("refused-12.script").replace("requires", "requires\tacc\tthis\tn");
-    assert_eq!(client.change(&mended), []);
+    assert_eq!(codes(&client.change(&mended)), [unused]);
     // Columns are units of UTF-16: the sign takes two.
     let found = client.change("main\n\u{1f600} \nend\n");
     assert_eq!(

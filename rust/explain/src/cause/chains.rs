@@ -1,6 +1,7 @@
 //! Chains in a check: which link of one is missing, where it was opened and not
 //! shut, and rings that the facts tell.
 
+use super::limits::noted;
 use super::route::{lost, route, told, Step};
 use super::rules::Unshown;
 use super::Cause;
@@ -116,6 +117,17 @@ impl Way {
         })
     }
 
+    /// The cause with what is known of the links. That they are a ring is the headline:
+    /// a ring is no chain, and no other atom is for one.
+    fn noted(&self, cause: Cause, found: String) -> Cause {
+        match self.end {
+            End::Ring(_) => cause
+                .or_head(Some(found))
+                .note(noted("no atom is for a ring of cards")),
+            _ => cause.note(found),
+        }
+    }
+
     /// "`a.prev` leads to `b`, and `b.prev` to `a`", up to the last card or to the
     /// one that a ring comes back to.
     fn lead(&self, names: &Names, field: &[u8]) -> String {
@@ -152,7 +164,7 @@ pub fn broken(cause: &Cause, unshown: &Unshown, steps: &[Step]) -> Option<Cause>
     let way = way(&unshown.asked.state, path);
     let found = way.told(&names, path.field)?;
     let gone = went(unshown.script, steps, &way, unshown.wanted);
-    Some(cause.clone().or_note(gone).note(found))
+    Some(way.noted(cause.clone().or_note(gone), found))
 }
 
 /// Where the chain went that is wanted, or the link that it lacks.
@@ -221,7 +233,11 @@ pub fn no_rest(script: &Script, record: &Record, number: u32) -> Option<Cause> {
     let steps = route(script, record, asked.place);
     let way = way(&asked.state, path);
     let gone = went(script, &steps, &way, wanted);
-    Some(cause.or_note(gone).or_note(way.told(&names, path.field)))
+    let cause = cause.or_note(gone);
+    Some(match way.told(&names, path.field) {
+        Some(found) => way.noted(cause, found),
+        None => cause,
+    })
 }
 
 /// The words of an `open` or `shut` that takes what is not there.

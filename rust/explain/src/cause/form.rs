@@ -1,5 +1,6 @@
 //! Number 4: the form of lines.
 
+use super::limits::noted;
 use super::places::{misplaced, words};
 use super::Cause;
 use crate::fix::STAR;
@@ -260,6 +261,9 @@ fn field_cause(operand: Operand, why: Malformed, field: &[u8]) -> Cause {
             let mut part = || parts.next().unwrap_or_default();
             let (x, f, rest) = (part(), part(), part());
             Cause::new(format!("a path has one field, and `{name}` has more"))
+                .note(noted(
+                    "a card behind a link has a name of its own before it is read",
+                ))
                 .help(format!("`let v {x}.{f}` first, then read `v.{rest}`"))
         }
         Malformed::Character(at) => {

@@ -92,11 +92,19 @@ impl Short {
             )),
             Short::Half => {
                 let gone = lost(steps, unshown.wanted);
-                let cause = cause.note(other_half(unshown, gone));
+                let cause = cause.or_head(half(unshown)).note(other_half(unshown, gone));
                 cause.or_help(help(unshown, gone))
             }
         }
     }
+}
+
+fn half(unshown: &Unshown) -> Option<String> {
+    let Atom::Permission(_, path) = unshown.wanted else {
+        return None;
+    };
+    let path = unshown.names().expr(Expr::Path(path));
+    Some(format!("only a half of the permission to `{path}` is held"))
 }
 
 /// "a half of `c.tag` is held, a whole one is needed; the other half went at line

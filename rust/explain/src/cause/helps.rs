@@ -1,5 +1,6 @@
 //! What may help where a rule does not show.
 
+use super::limits::computed;
 use super::route::{assigned, named, Step};
 use super::rules::Unshown;
 use crate::script::{shown, Names};
@@ -105,7 +106,7 @@ fn never_said(unshown: &Unshown, steps: &[Step]) -> Option<String> {
         Atom::Eq(left, right) | Atom::Ne(left, right)
             if [left, right]
                 .iter()
-                .any(|side| computed(unshown, steps, *side)) =>
+                .any(|side| computed(unshown, steps, *side).is_some()) =>
         {
             tested(unshown)
         }
@@ -165,13 +166,6 @@ fn tested(unshown: &Unshown) -> Option<String> {
     Some(format!(
         "test it: `if {wanted}`, and do this in the first branch"
     ))
-}
-
-/// Is it a variable whose value is a sum or difference?
-fn computed(unshown: &Unshown, steps: &[Step], side: Expr) -> bool {
-    let Expr::Var(var) = side else { return false };
-    let last = assigned(unshown.script, steps, var);
-    last.is_some_and(|last| matches!(last.action, Action::Compute(_)))
 }
 
 fn help_of_call(unshown: &Unshown, call: Call, atom: Atom) -> Option<String> {

@@ -9,8 +9,10 @@ mod fills;
 mod form;
 mod half_helps;
 pub(crate) mod halves;
+mod heads;
 mod helps;
 mod history;
+pub mod limits;
 mod names;
 mod places;
 pub(crate) mod route;
@@ -33,6 +35,8 @@ use std::ops::Range;
 /// The one reason, where in the line, what else is known, and what helps.
 #[derive(Clone, Debug, Default, PartialEq, Eq)]
 pub struct Cause {
+    /// The reason in few words, where the whole of it takes more.
+    pub head: Option<String>,
     /// The reason.
     pub text: String,
     /// Bytes of the line.
@@ -51,6 +55,28 @@ impl Cause {
             text: text.into(),
             ..Cause::default()
         }
+    }
+
+    /// The reason, as the first line of a message has it.
+    pub fn headline(&self) -> &str {
+        self.head.as_deref().unwrap_or(&self.text)
+    }
+
+    /// The lines that the reason and what else is known name.
+    pub fn related(&self) -> Vec<u32> {
+        let said = [self.head.as_deref(), Some(&self.text)]
+            .into_iter()
+            .flatten();
+        let said = said.chain(self.notes.iter().map(String::as_str));
+        let mut lines: Vec<u32> = said.flat_map(crate::second::named).collect();
+        lines.sort_unstable();
+        lines.dedup();
+        lines
+    }
+
+    fn or_head(mut self, head: Option<String>) -> Cause {
+        self.head = head.or(self.head);
+        self
     }
 
     fn mark(mut self, mark: Option<Range<usize>>) -> Cause {

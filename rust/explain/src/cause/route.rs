@@ -173,7 +173,7 @@ pub fn assigned<'s, 'a>(
 }
 
 /// Does the atom name the variable?
-fn names_var(atom: Atom, var: Var) -> bool {
+pub fn names_var(atom: Atom, var: Var) -> bool {
     let side = |expr: Expr| match expr {
         Expr::Var(x) => x == var,
         Expr::Path(path) => path.var == var,

@@ -4,7 +4,9 @@
 use super::chains;
 use super::half_helps;
 use super::halves;
+use super::heads::head;
 use super::helps::help;
+use super::limits::limit;
 use super::route::{dropped, lost, route, told, told_fact, Step};
 use super::Cause;
 use crate::script::{field_range, line, listed, shown, Names, Script};
@@ -405,28 +407,21 @@ fn not_shown(script: &Script, record: &Record, number: u32) -> Option<Cause> {
         return Some(short.told(cause, &unshown, &steps));
     }
     if let Some(taken) = unshown.taken() {
-        return Some(cause.note(taken));
+        return Some(cause.or_head(Some(taken)));
     }
     let names = unshown.names();
     let steps = route(script, record, unshown.target());
+    let lost_at = lost(&steps, unshown.wanted);
+    let cause = cause.or_head(head(&unshown, record, &steps, lost_at));
     if let Some(cause) = chains::broken(&cause, &unshown, &steps) {
         return Some(cause);
     }
-    let lost_at = lost(&steps, unshown.wanted);
     let cause = match lost_at {
         Some(place) => cause.note(told(script, place, unshown.wanted)),
-        None if unshown.read.is_some() => {
-            cause.note(format!("neither was ever held in {}", names.title()))
-        }
-        None if matches!(unshown.wanted, Atom::Permission(..)) => {
-            cause.note(format!("it was never held in {}", names.title()))
-        }
-        None => match went(&unshown, &steps) {
-            Some(note) => cause.note(note),
-            None => cause,
-        },
+        None => cause.or_note(went(&unshown, &steps)),
     };
     let cause = cause.or_note(nearest(&names, &asked.state, unshown.wanted));
+    let cause = cause.or_note(limit(&unshown, &steps));
     let cause = cause.or_note(chains::inside(&names, &asked.state, unshown.wanted));
     let cause = cause.or_note(halves::may_be_one(&names, &asked.state, unshown.wanted));
     let wanted = half_helps::offered(&unshown, &steps, lost_at);

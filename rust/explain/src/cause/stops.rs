@@ -409,7 +409,7 @@ fn full(script: &Script, machine: &Machine, stop: Stop) -> Option<String> {
         Stop::HeapFull => {
             let Room { objects, fields } = machine.room;
             let made = format!(
-                "{} objects with {} fields are made already",
+                "the heap is full: {} objects with {} fields are made already",
                 machine.objects.len(),
                 machine.heap.len()
             );
@@ -423,7 +423,7 @@ fn full(script: &Script, machine: &Machine, stop: Stop) -> Option<String> {
             let same = machine.frames.iter().filter(|frame| frame.block == block);
             let (count, of) = (same.count(), script.names(block).title());
             Some(format!(
-                "{} blocks are open already, {count} of them {of}",
+                "the frames are full: {} blocks are open already, {count} of them {of}",
                 machine.frames.len()
             ))
         }

@@ -2,6 +2,10 @@
 
 use crate::{fixed, refused, script, KNOT, THREE, UNSHUT};
 
+/// The note of a ring.
+const NO_RING: &str = "a limit of the language: no atom is for a ring of cards \
+                       (docs/LANGUAGE.md, \"What the language can't say\")";
+
 #[test]
 fn opened_and_not_shut() {
     let cause = refused(UNSHUT, 12);
@@ -43,8 +47,7 @@ fn which_link_is_missing() {
         ),
         (
             "|set u p t|assert chain s p",
-            &["`s.p` leads to `t`, `t.p` to `u` and `u.p` to `t`: a ring, and a chain ends in \
-               null"],
+            &[NO_RING],
         ),
     ] {
         let cause = refused(&script("", &format!("{THREE}{statements}")), 12);
@@ -52,6 +55,13 @@ fn which_link_is_missing() {
         let last = cause.notes.len().saturating_sub(notes.len());
         assert_eq!(cause.notes[last..], *notes, "{statements}");
     }
+    let ring = refused(
+        &script("", &format!("{THREE}|set u p t|assert chain s p")),
+        12,
+    );
+    let head =
+        "`s.p` leads to `t`, `t.p` to `u` and `u.p` to `t`: a ring, and a chain ends in null";
+    assert_eq!(ring.headline(), head);
 }
 
 #[test]
@@ -71,8 +81,9 @@ fn a_ring_that_the_checker_sees() {
     let said = "`shut` takes the chain by `prev` of the card that `b.prev` leads to, and it is \
                 not held here";
     assert_eq!(cause.text, said);
-    let note = "`b.prev` leads to `a` and `a.prev` to `b`: a ring, and a chain ends in null";
-    assert_eq!(cause.notes, [note]);
+    let head = "`b.prev` leads to `a` and `a.prev` to `b`: a ring, and a chain ends in null";
+    assert_eq!(cause.headline(), head);
+    assert_eq!(cause.notes, [NO_RING]);
     let fix = "delete line 10; the script is then accepted";
     assert_eq!(fixed(KNOT).as_deref(), Some(fix));
 }
@@ -111,9 +122,9 @@ fn one_chain_is_not_two() {
         &script("", "|new s S|shut s p|let t s|assert chain s p chain t p"),
         12,
     );
-    let note =
+    let head =
         "`chain s p` and `chain t p` ask for two chains, and `s` and `t` are known to be one";
-    assert_eq!(names.notes, [note]);
+    assert_eq!(names.headline(), head);
 }
 
 #[test]

@@ -1,0 +1,378 @@
+//! Headlines, second places and limits, put to the machine: what a headline says of a
+//! line is so, every line that a message names is shown, every reason for number 15 is
+//! listed, and no atom of a contract gets past what is called a limit.
+
+use explain::cause::limits::PAGE;
+use explain::script::{quoted, Script};
+use explain::show::{self, Paint};
+use explain::{Asked, Bounded, Model, Report};
+use model::machine::{location, Machine, Step};
+use model::names::{Action, Expr};
+use std::collections::BTreeSet;
+use std::path::Path;
+
+/// The scripts of a folder of the repository.
+fn scripts(folder: &str) -> Vec<Vec<u8>> {
+    let folder = Path::new(env!("CARGO_MANIFEST_DIR")).join(folder);
+    let entries = std::fs::read_dir(folder).expect("a folder");
+    let paths = entries.map(|entry| entry.expect("an entry").path());
+    let scripts = paths.filter(|path| path.extension().is_some_and(|end| end == "script"));
+    scripts
+        .map(|path| std::fs::read(path).expect("a script"))
+        .collect()
+}
+
+/// The text without each of its lines, and each line without each of its atoms.
+fn shortened(text: &[u8]) -> Vec<Vec<u8>> {
+    let lines: Vec<&[u8]> = text.split_inclusive(|&byte| byte == b'\n').collect();
+    let mut found = Vec::new();
+    for at in 0..lines.len() {
+        found.push([&lines[..at], &lines[at + 1..]].concat().concat());
+        let fields: Vec<&[u8]> = lines[at].trim_ascii_end().split(|&b| b == b'\t').collect();
+        let first = match fields[0] {
+            b"requires" | b"ensures" | b"join" => 1,
+            b"loop" => 4,
+            _ => continue,
+        };
+        for atom in (first..fields.len().saturating_sub(2)).step_by(3) {
+            let fewer = [&fields[..atom], &fields[atom + 3..]].concat().join(&b'\t');
+            let fewer = [&fewer[..], b"\n"].concat();
+            found.push(
+                [&lines[..at], &[&fewer], &lines[at + 1..]]
+                    .concat()
+                    .concat(),
+            );
+        }
+    }
+    found
+}
+
+/// Refused texts of every kind.
+fn refused() -> Vec<Vec<u8>> {
+    let mut texts = scripts("../cli/tests/scripts");
+    for text in scripts("../../examples") {
+        texts.extend(shortened(&text));
+        texts.push(text);
+    }
+    texts.extend((0..400).map(|seed| generator::text(0x9200_0000 + seed)));
+    texts.retain(|text| model::check(text).0 != 0);
+    texts
+}
+
+/// The number after a word.
+fn after(said: &str, word: &str) -> Option<u32> {
+    let rest = said.split(word).nth(1)?;
+    let digits: String = rest.chars().take_while(char::is_ascii_digit).collect();
+    digits.parse().ok()
+}
+
+/// What stands between the signs, the first and so on.
+fn quotes(said: &str) -> Vec<&str> {
+    said.split('`').skip(1).step_by(2).collect()
+}
+
+/// Does the frame that comes to a line ever hold the path there, in a trial?
+fn ever_held(script: &Script, line: u32, path: &str) -> bool {
+    let place = script.statement_at(line).expect("a statement");
+    let names = script.names_at(place);
+    let own = |expr: &Expr| names.expr(*expr) == path;
+    let (x, f) = path.split_once('.').expect("a path");
+    let var = (0..model::names::VARS).find(|&var| {
+        let local = var < 2 + names.block.locals.len();
+        local && names.kind(var).is_some() && names.var(var) == x
+    });
+    let Some(var) = var else { return false };
+    let model::names::Type::Class(class) = names.kind(var).expect("a type") else {
+        return false;
+    };
+    let class = &script.program.classes[script.program.class(class).expect("a class")];
+    let slot = class
+        .fields
+        .iter()
+        .position(|field| field.name == f.as_bytes());
+    let path = model::names::Path {
+        var,
+        field: class.fields[slot.expect("a field")].name,
+        slot: slot.expect("a field"),
+    };
+    assert!(own(&Expr::Path(path)));
+    let mut machine = Machine::new(&script.program);
+    while machine.steps < 2_000 {
+        let frame = machine.frame();
+        let here = machine.statement().line == line;
+        let place = here.then(|| location(&machine.objects, &frame.values, path));
+        let place = place.flatten();
+        if place.is_some_and(|place| frame.held.halves(place) > 0) {
+            return true;
+        }
+        if machine.step() != Ok(Step::On) {
+            break;
+        }
+    }
+    false
+}
+
+/// The words of a line.
+fn words(text: &[u8], line: u32) -> Vec<String> {
+    quoted(text, line).split(' ').map(str::to_string).collect()
+}
+
+/// Is what a headline says of the text so? What it is, if it is one that is tried.
+fn holds(text: &[u8], line: u32, said: &str) -> Option<&'static str> {
+    let script = Script::of(text)?;
+    let quotes = quotes(said);
+    if said.starts_with("nobody gave ") && said.contains("the permission to ") {
+        let path = quotes.last().expect("a path");
+        assert!(!ever_held(&script, line, path), "{said}");
+        return Some("nobody gave");
+    }
+    if let Some(at) = after(said, "called at line ") {
+        let call = words(text, at);
+        assert_eq!(
+            (call[0].as_str(), call[3].as_str()),
+            ("call", quotes[0]),
+            "{said}"
+        );
+        return Some("not given back");
+    }
+    if let Some(at) = after(said, "has another value since line ") {
+        let place = script.statement_at(at).expect("a statement");
+        let own = words(text, at)[1].clone();
+        let gives = matches!(
+            script.program.statements[place].action,
+            Action::Let(..)
+                | Action::New(..)
+                | Action::Call(_)
+                | Action::Open(_)
+                | Action::Compute(_)
+        );
+        assert!(gives && own == quotes[0], "{said}");
+        return Some("another value");
+    }
+    if let Some(at) = after(said, "since line ").filter(|_| said.ends_with("does not compute")) {
+        let sum = words(text, at);
+        assert!(
+            ["add", "sub"].contains(&sum[0].as_str()) && sum[1] == quotes[0],
+            "{said}"
+        );
+        return Some("computed");
+    }
+    let kept = said
+        .ends_with(" go")
+        .then(|| after(said, "line "))
+        .flatten();
+    for (at, word, what) in [
+        (kept, "release", "let go"),
+        (after(said, "the `join` of line "), "join", "not joined"),
+        (
+            after(said, "the invariant of line "),
+            "loop",
+            "no invariant",
+        ),
+        (after(said, "was opened at line "), "open", "opened"),
+    ] {
+        if let Some(at) = at {
+            assert_eq!(words(text, at)[0], word, "{said}");
+            return Some(what);
+        }
+    }
+    None
+}
+
+#[test]
+fn headlines_name_causes_and_are_true() {
+    let mut tried = std::collections::BTreeMap::new();
+    for text in refused() {
+        let report = Report::of(&mut Model, "a", &text, Asked::Check);
+        let refusal = report.refusal.expect("it is refused");
+        let cause = report.cause.as_ref().expect("a cause");
+        assert_ne!(cause.headline(), show::title(refusal.number()));
+        assert!(!cause.headline().is_empty());
+        let first = show::report(&report, Paint(false));
+        let first = first.lines().next().expect("a line").to_string();
+        assert!(first.ends_with(cause.headline()), "{first}");
+        if let Some(what) = holds(&text, refusal.line(), cause.headline()) {
+            *tried.entry(what).or_insert(0) += 1;
+        }
+    }
+    println!("{tried:?}");
+    assert_eq!(tried.len(), 8, "{tried:?}");
+}
+
+/// Every other line that a message names stands below it with its number.
+#[test]
+fn second_places() {
+    let mut shown = 0;
+    for text in refused() {
+        let mut report = Report::of(&mut Model, "a", &text, Asked::Check);
+        report.further.clear();
+        let printed = show::report(&report, Paint(false));
+        let own = report.refusal.expect("it is refused").line();
+        let rows: Vec<String> = printed
+            .lines()
+            .map(|row| row.trim_start().to_string())
+            .collect();
+        for line in report.cause.as_ref().expect("a cause").related() {
+            let row = row(&text, line);
+            assert!(
+                rows.iter().any(|shown| shown.starts_with(&row)),
+                "{row}\n{printed}"
+            );
+            shown += usize::from(line != own);
+        }
+    }
+    assert!(shown > 300, "{shown}");
+}
+
+/// A line as a message shows it, as far as a long one is shown.
+fn row(text: &[u8], line: u32) -> String {
+    let row = format!("{line} | {}", quoted(text, line));
+    row.chars().take(90).collect()
+}
+
+/// Loops, and calls of methods from which a call leads to their own.
+fn without_bound(script: &Script) -> BTreeSet<u32> {
+    let blocks = script.program.blocks.len();
+    let mut leads = vec![vec![false; blocks]; blocks];
+    for (place, statement) in script.program.statements.iter().enumerate() {
+        if let Action::Call(call) = statement.action {
+            leads[script.block_of(place)][call.method] = true;
+        }
+    }
+    for by in 0..blocks {
+        for from in 0..blocks {
+            for to in 0..blocks {
+                leads[from][to] |= leads[from][by] && leads[by][to];
+            }
+        }
+    }
+    let statements = script.program.statements.iter().enumerate();
+    let found = statements.filter(|(place, statement)| match statement.action {
+        Action::Loop(_) => true,
+        Action::Call(call) => {
+            let block = script.block_of(*place);
+            call.method == block || leads[call.method][block]
+        }
+        _ => false,
+    });
+    found.map(|(_, statement)| statement.line).collect()
+}
+
+#[test]
+fn every_reason_for_number_15() {
+    let mut several = 0;
+    let examples = scripts("../../examples").into_iter();
+    for text in examples.chain((0..600).map(|seed| generator::text(0x9300_0000 + seed))) {
+        let found = model::bound(&text);
+        let (15, Some(script)) = (found.number, Script::of(&text)) else {
+            continue;
+        };
+        let all = without_bound(&script);
+        let printed = Bounded::of(&mut Model, "a", &text, false).shown(Paint(false));
+        for line in &all {
+            let row = row(&text, *line);
+            let mut rows = printed.lines().map(str::trim_start);
+            assert!(
+                rows.any(|shown| shown.starts_with(&row)),
+                "{row}\n{printed}"
+            );
+        }
+        several += usize::from(all.len() > 1);
+    }
+    assert!(several > 10, "{several}");
+}
+
+/// The atoms that a `requires` may have for a permission to a path.
+fn permissions(script: &Script, block: usize) -> Vec<String> {
+    let Some(header) = script.program.blocks[block].header else {
+        return Vec::new();
+    };
+    let param = (header.param.name, header.param.kind);
+    let this = (&b"this"[..], model::names::Type::Class(header.class));
+    let mut atoms = Vec::new();
+    for (name, kind) in [this, param] {
+        let model::names::Type::Class(class) = kind else {
+            continue;
+        };
+        let class = &script.program.classes[script.program.class(class).expect("a class")];
+        for field in &class.fields {
+            let (name, field) = (
+                explain::script::shown(name),
+                explain::script::shown(field.name),
+            );
+            atoms.push(format!("acc\t{name}\t{field}"));
+        }
+    }
+    atoms
+}
+
+/// With no permission that a contract can ask for does the check get past a line that
+/// reads or writes a card behind a link.
+#[test]
+fn what_no_contract_says() {
+    let mut tried = 0;
+    let walks = [
+        "class C|field C prev|field int tag|method int m int none|requires acc this prev|ensures\
+         |var C p|var int k|let p this.prev|let k p.tag|return k|end|main|end|",
+        "class C|field C prev|field int tag|method int m int none|requires ne this null chain \
+         this prev|ensures|var C p|var int k|open p this prev|set p tag k|return k|end|main|end|",
+        "class D|field int n|class C|field D d|method int m C w|requires acc this d acc w d\
+         |ensures|var D p|var int k|let p w.d|let k p.n|return k|end|main|end|",
+    ];
+    let walks = walks.map(|text| text.replace(' ', "\t").replace('|', "\n").into_bytes());
+    for text in refused().into_iter().chain(walks) {
+        let report = Report::of(&mut Model, "a", &text, Asked::Check);
+        let refusal = report.refusal.expect("it is refused");
+        let cause = report.cause.as_ref().expect("a cause");
+        let limit = |note: &&String| note.contains("behind the link");
+        if !cause.notes.iter().any(|note| limit(&note)) {
+            continue;
+        }
+        assert!(cause
+            .notes
+            .iter()
+            .find(limit)
+            .expect("a note")
+            .contains(PAGE));
+        let script = Script::of(&text).expect("a text that is read");
+        let place = script.statement_at(refusal.line()).expect("a statement");
+        let block = script.block_of(place);
+        let (requires, _) = script.contract_lines(block);
+        for atom in permissions(&script, block) {
+            let mut lines: Vec<Vec<u8>> = text.split(|&b| b == b'\n').map(<[u8]>::to_vec).collect();
+            lines[requires as usize - 1].extend(format!("\t{atom}").into_bytes());
+            let (number, line) = model::check(&lines.join(&b'\n'));
+            assert!(
+                number != 0 && line <= refusal.line(),
+                "{atom}: {number} at {line}"
+            );
+            tried += 1;
+        }
+    }
+    assert!(tried > 5, "{tried}");
+}
+
+/// The limits that are not about cards point to the same page.
+#[test]
+fn limits_point_to_the_guide() {
+    for text in [
+        "main|var int a|add a a a|assert eq a 2|end|",
+        "class C|field C prev|main|var C a|var C b|new a C|new b C|set a prev b|set b prev a\
+         |shut b prev|end|",
+        "class C|field C prev|main|var C a|var C b|new a C|let b a.prev.prev|end|",
+    ] {
+        let text = text.replace(' ', "\t").replace('|', "\n");
+        let report = Report::of(&mut Model, "a", text.as_bytes(), Asked::Check);
+        let cause = report.cause.expect("a cause");
+        let pointed = cause
+            .notes
+            .iter()
+            .filter(|note| note.contains(PAGE))
+            .count();
+        assert_eq!(pointed, 1, "{:?}", cause.notes);
+    }
+    let guide = Path::new(env!("CARGO_MANIFEST_DIR")).join("../../docs/LANGUAGE.md");
+    let guide = std::fs::read_to_string(guide).expect("the guide");
+    let title = PAGE.split('"').nth(1).expect("a title");
+    assert!(guide.contains(&format!("\n## {title}\n")), "{title}");
+}
