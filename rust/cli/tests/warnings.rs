@@ -104,18 +104,26 @@ fn elsewhere() {
 fn in_the_editor() {
     let text = std::fs::read_to_string(common::root().join(UNKEPT)).expect("a script");
     let document = Json::object().with("uri", "file:///a").with("text", text);
-    let opened = Json::object()
-        .with("jsonrpc", "2.0")
+    let message = || Json::object().with("jsonrpc", "2.0");
+    let capable = Json::object().with("capabilities", Json::object());
+    let asked = message()
+        .with("id", 1u32)
+        .with("method", "initialize")
+        .with("params", capable);
+    let opened = message()
         .with("method", "textDocument/didOpen")
-        .with("params", Json::object().with("textDocument", document))
-        .to_string();
+        .with("params", Json::object().with("textDocument", document));
     let mut child = command(&["lsp"]).spawn().expect("station starts");
     let mut input = child.stdin.take().expect("its input");
-    write!(input, "Content-Length: {}\r\n\r\n{opened}", opened.len()).expect("sent");
+    for message in [asked, opened] {
+        let body = message.to_string();
+        write!(input, "Content-Length: {}\r\n\r\n{body}", body.len()).expect("sent");
+    }
     drop(input);
     let output = child.wait_with_output().expect("station ends").stdout;
     let output = String::from_utf8(output).expect("UTF-8");
-    let body = output.split("\r\n\r\n").nth(1).expect("a body");
+    // The reply, then the diagnostics, each after its header.
+    let body = output.split("\r\n\r\n").nth(2).expect("two messages");
     let told = parse(body).expect("JSON");
     let Some(Json::List(found)) = told.at(&["params", "diagnostics"]) else {
         panic!("{told}");
