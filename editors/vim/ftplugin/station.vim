@@ -1,4 +1,4 @@
-" Fields are parted by one tab; every line is ended by LF.
+" Fields are separated by one tab; every line is ended by LF.
 if exists('b:did_ftplugin')
   finish
 endif

@@ -95,7 +95,7 @@ fn colour_of(word: &OsStr) -> Option<Colour> {
     }
 }
 
-/// Numbers parted by commas.
+/// Numbers separated by commas.
 fn numbers_of(word: &OsStr) -> Option<Vec<u32>> {
     let numbers = word.to_str()?.split(',');
     numbers.map(|number| number_of(number.as_ref())).collect()

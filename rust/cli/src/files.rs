@@ -108,7 +108,7 @@ fn beside(file: &Path) -> PathBuf {
     file.with_file_name(name)
 }
 
-/// Writes the file anew: the new text stands whole beside it before it takes
+/// Writes the file again: the new text stands whole beside it before it takes
 /// its place, so that at no time the file is lost. A link is followed, and the
 /// file keeps its permissions.
 pub fn replace(file: &Path, text: &[u8]) -> Result<(), Unread> {

@@ -38,7 +38,7 @@ fn told(session: &mut Session, filling: &Filling, output: bool) {
     }
 }
 
-/// `--write`: the file anew, whole or not at all; standard input is printed whole. A
+/// `--write`: the file again, whole or not at all; standard input is printed whole. A
 /// text that is then too long is refused as check refuses it.
 fn write(session: &mut Session, name: &OsStr, filling: &Filling, filled: &Filled) -> Status {
     let whole = filled.text();

@@ -150,7 +150,7 @@ impl fmt::Display for Misuse {
             Misuse::Shares(word) => {
                 write!(
                     f,
-                    "--shares takes a number for each script, parted by commas, not \"{}\"",
+                    "--shares takes a number for each script, separated by commas, not \"{}\"",
                     shown(word)
                 )
             }

@@ -429,7 +429,7 @@ pub const OPTIONS: &[OptionSpec] = &[
         Flag::Color,
         "color",
         Some("WHEN"),
-        "auto, always or never; NO_COLOR is heeded",
+        "auto, always or never; NO_COLOR is respected",
         &[],
     ),
     OptionSpec {

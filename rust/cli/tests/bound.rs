@@ -59,7 +59,7 @@ fn a_bound_and_its_route() {
     let (out, status) = bound("main\nend\n");
     let alone = "-: at most 1 step, 1 frame\n  route: main takes 1: 1 line\n";
     assert_eq!((out.as_str(), status), (alone, 0));
-    // The dearest call of each block, and the first of two alike.
+    // The most expensive call of each block, and the first of two alike.
     let methods = calls(&[("a", &[]), ("b", &["a", "a"]), ("c", &["a", "b"])]);
     let main = "call a s a b\ncall a s c b\ncall a s c b\n";
     let (out, _) = bound(&script(&methods, main));

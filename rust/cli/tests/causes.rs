@@ -1,7 +1,7 @@
 //! Messages by cause: scripts as new users wrote them, each with one mistake,
 //! and what check says of each, kept in `scripts/answers.txt`.
 //!
-//! `UPDATE_ANSWERS=1 cargo test -p cli --test causes` writes the answers anew.
+//! `UPDATE_ANSWERS=1 cargo test -p cli --test causes` writes the answers again.
 
 mod common;
 

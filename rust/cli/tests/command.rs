@@ -436,7 +436,7 @@ fn examples_of_explanations() {
     }
 }
 
-/// `fmt` mends what it says: the scripts with blanks for tabs and CR for good
+/// `fmt` fixes what it says: the scripts with blanks for tabs and CR for good
 /// measure come out as they were, and `tabs` is the same.
 #[test]
 fn fmt_mends() {
@@ -478,8 +478,8 @@ fn fmt_writes() {
     let expected = format!("{path}/bad.script: {changes}\n{kept}\n2 formatted, 0 not formatted\n");
     assert_eq!((out, status_of_write), (expected, 0));
     assert_eq!(status(&["fmt", "--check", path], b""), 0);
-    let mended = std::fs::read_to_string(&bad).expect("the file");
-    assert_eq!(mended, "main\nvar\tint\ta\nlet\ta\t-5\nend\n");
+    let fixed = std::fs::read_to_string(&bad).expect("the file");
+    assert_eq!(fixed, "main\nvar\tint\ta\nlet\ta\t-5\nend\n");
     let after = std::fs::metadata(&good)
         .and_then(|data| data.modified())
         .expect("a time");

@@ -152,23 +152,23 @@ fn wrong_use() {
         ),
         (
             &["count", "--shares", "", "a"],
-            "parted by commas, not \"\"",
+            "separated by commas, not \"\"",
         ),
         (
             &["count", "--shares", "1,,2", "a", "b"],
-            "parted by commas, not \"1,,2\"",
+            "separated by commas, not \"1,,2\"",
         ),
         (
             &["count", "--shares", "1, 2", "a", "b"],
-            "parted by commas, not \"1, 2\"",
+            "separated by commas, not \"1, 2\"",
         ),
         (
             &["count", "--shares", "-1", "a"],
-            "parted by commas, not \"-1\"",
+            "separated by commas, not \"-1\"",
         ),
         (
             &["count", "--shares", "4294967296", "a"],
-            "parted by commas",
+            "separated by commas",
         ),
         (
             &["count", "--rounds", "x", "a"],

@@ -1,7 +1,7 @@
 //! The guide and the README can't go stale: their scripts are the files of
-//! `examples/`, their answers are what the command prints, and the mends mend.
+//! `examples/`, their answers are what the command prints, and the fixes work.
 //!
-//! `UPDATE_GUIDE=1 cargo test -p cli --test guide` writes the blocks anew.
+//! `UPDATE_GUIDE=1 cargo test -p cli --test guide` writes the blocks again.
 
 use std::collections::BTreeSet;
 use std::path::{Path, PathBuf};
@@ -175,7 +175,7 @@ fn every_example() {
 }
 
 /// A script with each line that is crossed out replaced by those that follow.
-fn mended(script: &str, lines: &[&str]) -> String {
+fn fixed(script: &str, lines: &[&str]) -> String {
     let mut all: Vec<String> = script.lines().map(str::to_string).collect();
     let mut at = 0;
     for line in lines {
@@ -203,15 +203,15 @@ fn mended(script: &str, lines: &[&str]) -> String {
     all.join("\n") + "\n"
 }
 
-/// Each mend makes its script accepted, and its run finish.
+/// Each fix makes its script accepted, and its run finish.
 #[test]
-fn mends() {
+fn fixes() {
     let guide = guide();
-    let mut mends = BTreeSet::new();
+    let mut fixes = BTreeSet::new();
     with_blocks(&guide, |block| {
         if let Some(name) = block.heading.strip_prefix("diff ") {
-            mends.insert(name.to_string());
-            let text = mended(&script(name), &block.lines);
+            fixes.insert(name.to_string());
+            let text = fixed(&script(name), &block.lines);
             match nuyardi::run(text.as_bytes(), 1_000) {
                 Ok(outcome) => assert!(outcome.finished(), "{name}: {outcome}"),
                 Err(refusal) => panic!("{name}: {refusal}\n{text}"),
@@ -224,13 +224,13 @@ fn mends() {
     });
     for number in 3..=18 {
         assert!(
-            mends.contains(&format!("examples/refused-{number:02}.script")),
+            fixes.contains(&format!("examples/refused-{number:02}.script")),
             "{number}"
         );
     }
     for number in 22..=27 {
         assert!(
-            mends.contains(&format!("examples/stopped-{number}.script")),
+            fixes.contains(&format!("examples/stopped-{number}.script")),
             "{number}"
         );
     }

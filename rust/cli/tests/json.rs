@@ -34,7 +34,7 @@ fn check() {
     for (name, said) in [
         ("title", known.title),
         ("meaning", known.meaning),
-        ("mend", known.mend),
+        ("advice", known.advice),
     ] {
         assert_eq!(refused.get(name), Some(&text(said)));
     }
@@ -229,6 +229,6 @@ fn anything() {
     for known in nuyardi::EXPLANATIONS {
         let number = known.number.to_string();
         let shown = object(&["explain", "--json", &number], b"");
-        assert_eq!(shown.get("mend"), Some(&text(known.mend)));
+        assert_eq!(shown.get("advice"), Some(&text(known.advice)));
     }
 }

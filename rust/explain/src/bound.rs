@@ -21,7 +21,7 @@ pub struct Bounded<'a> {
     cause: Option<Cause>,
     /// What check says of a text that it refuses.
     refused: Option<Report<'a>>,
-    /// The dearest route of calls, if it is asked for and the model agrees.
+    /// The most expensive route of calls, if it is asked for and the model agrees.
     route: Vec<Leg>,
 }
 
@@ -96,7 +96,7 @@ impl<'a> Bounded<'a> {
     }
 }
 
-/// The dearest route of an accepted text whose calls lead nowhere back.
+/// The most expensive route of an accepted text whose calls lead nowhere back.
 fn route(text: &[u8], found: Result<Bound, NoBound>) -> Option<Vec<Leg>> {
     let model = model::bound(text);
     let (number, steps) = match found {
@@ -108,7 +108,7 @@ fn route(text: &[u8], found: Result<Bound, NoBound>) -> Option<Vec<Leg>> {
         Err(_) => return None,
     };
     let script = Script::of(text).filter(|_| (model.number, model.bound) == (number, steps))?;
-    Some(Routes::of(&script).dearest())
+    Some(Routes::of(&script).costliest())
 }
 
 /// The bound, and a word on frames that no run has.

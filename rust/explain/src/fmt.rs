@@ -98,7 +98,7 @@ mod tests {
 
     #[test]
     fn blanks_become_one_tab() {
-        for (typed, mended) in [
+        for (typed, fixed) in [
             (&b"let  a \t 7\n"[..], &b"let\ta\t7\n"[..]),
             (b"  let a 7\t\r\nend", b"let\ta\t7\nend\n"),
             (b"", b""),
@@ -115,7 +115,7 @@ mod tests {
                 "class\tK\u{e5}rt\n".as_bytes(),
             ),
         ] {
-            assert_eq!(formatted(typed), mended, "{typed:?}");
+            assert_eq!(formatted(typed), fixed, "{typed:?}");
         }
     }
 

@@ -21,7 +21,7 @@ pub fn words(object: Json, number: u32) -> Json {
         Some(known) => object
             .with("title", known.title)
             .with("meaning", known.meaning)
-            .with("mend", known.mend),
+            .with("advice", known.advice),
         None => object,
     }
 }
@@ -173,6 +173,6 @@ pub fn explanation(known: &Explanation) -> Json {
         .with("number", known.number)
         .with("title", known.title)
         .with("meaning", known.meaning)
-        .with("mend", known.mend)
+        .with("advice", known.advice)
         .with_some("example", known.example)
 }

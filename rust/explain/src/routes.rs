@@ -163,7 +163,7 @@ impl Routes {
     }
 
     /// Main, then of each block the call that adds most, the first of several.
-    pub fn dearest(&self) -> Vec<Leg> {
+    pub fn costliest(&self) -> Vec<Leg> {
         let bounds = self.bounds();
         let leg = |line, block: usize| Leg {
             line,
@@ -173,11 +173,11 @@ impl Routes {
             bound: bounds[block],
         };
         let mut legs = vec![leg(self.main_line, self.main())];
-        let dearest = |block: usize| {
+        let costliest = |block: usize| {
             let calls = self.calls[block].iter().rev();
             calls.max_by_key(|call| bounds[call.method])
         };
-        while let Some(call) = legs.last().and_then(|last| dearest(last.block)) {
+        while let Some(call) = legs.last().and_then(|last| costliest(last.block)) {
             legs.push(leg(call.line, call.method));
         }
         legs

@@ -198,7 +198,7 @@ fn formats(number: u32) -> Option<&'static str> {
 
 fn number_in_words(out: &mut String, known: &Explanation) {
     wrapped(out, "   what: ", known.meaning);
-    wrapped(out, "   help: ", known.mend);
+    wrapped(out, "   help: ", known.advice);
     if let Some(said) = formats(known.number) {
         wrapped(out, "   note: ", said);
     }
@@ -267,7 +267,7 @@ pub fn reasons(out: &mut String, shown: &mut Shown, number: u32, cause: Option<&
                 wrapped(out, "    fix: ", &fix.said());
             }
             let usual = explain(number).filter(|_| number >= FIRST_OF_ACCEPTED);
-            let help = cause.help.as_deref().or(usual.map(|known| known.mend));
+            let help = cause.help.as_deref().or(usual.map(|known| known.advice));
             if let Some(help) = help {
                 wrapped(out, "   help: ", help);
             }

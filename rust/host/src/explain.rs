@@ -1,4 +1,4 @@
-//! Every number in words: what it means and what usually mends it.
+//! Every number in words: what it means and what usually helps.
 
 use core::fmt;
 
@@ -12,8 +12,8 @@ pub struct Explanation {
     pub title: &'static str,
     /// What the number means.
     pub meaning: &'static str,
-    /// What usually mends it.
-    pub mend: &'static str,
+    /// What usually helps.
+    pub advice: &'static str,
     /// A short script that gets the number, where there is one.
     pub example: Option<&'static str>,
 }
@@ -39,10 +39,10 @@ pub fn explain(number: u32) -> Option<&'static Explanation> {
     EXPLANATIONS.iter().find(|known| known.number == number)
 }
 
-/// A number's title and mend, as messages have them.
+/// A number's title and advice, as messages have them.
 pub(crate) fn words(f: &mut fmt::Formatter<'_>, number: u32) -> fmt::Result {
     match explain(number) {
-        Some(known) => write!(f, "{} (number {number}); {}", known.title, known.mend),
+        Some(known) => write!(f, "{} (number {number}); {}", known.title, known.advice),
         None => write!(f, "number {number}"),
     }
 }
@@ -63,7 +63,7 @@ pub const EXPLANATIONS: &[Explanation] = &[
         meaning: "Check accepts the text: its runs never lack a permission, follow null or meet \
                   a false formula. A run has done main's `end`. Bound gives the most steps, and \
                   fill the permissions. Count has run its scripts, each with an answer of its own.",
-        mend: "there is nothing to mend",
+        advice: "there is nothing to fix",
         example: None,
     },
     Explanation {
@@ -71,7 +71,7 @@ pub const EXPLANATIONS: &[Explanation] = &[
         title: "a lent area of wrong length",
         meaning: "The program that calls the library lent it an area of another length than it \
                   takes. No script can cause this.",
-        mend: "lend 65,536 bytes to work in, 52 bytes for results, 8 bytes for bounds and 4 bytes \
+        advice: "lend 65,536 bytes to work in, 52 bytes for results, 8 bytes for bounds and 4 bytes \
                for places, and 224 bytes for the results of a count",
         example: None,
     },
@@ -79,7 +79,7 @@ pub const EXPLANATIONS: &[Explanation] = &[
         number: 2,
         title: "a text that is too long",
         meaning: "A text has at most 32,768 bytes, tabs and line ends counted.",
-        mend: "shorten names, or split the script into several",
+        advice: "shorten names, or split the script into several",
         example: None,
     },
     Explanation {
@@ -87,7 +87,7 @@ pub const EXPLANATIONS: &[Explanation] = &[
         title: "a byte that may not stand in a text",
         meaning: "A text has tabs, line ends (LF) and the visible ASCII characters, and its last \
                   line is ended too. Blanks, CR, accented letters and control characters are refused.",
-        mend: "part fields by tabs, not blanks, end lines with LF alone, and end the last line",
+        advice: "separate fields by tabs, not blanks, end lines with LF alone, and end the last line",
         example: example!("refused-03"),
     },
     Explanation {
@@ -101,7 +101,7 @@ pub const EXPLANATIONS: &[Explanation] = &[
                   A formula has at most 8 atoms, in a `loop` after its condition; a name has at most \
                   12 letters and digits. A line `requires *` is yet to be filled in: only fill takes \
                   it.",
-        mend: "compare the line with its form in the guide; one tab parts two fields, and none \
+        advice: "compare the line with its form in the guide; one tab separates two fields, and none \
                begins or ends a line; fill finds what a `requires *` stands for",
         example: example!("refused-04"),
     },
@@ -111,7 +111,7 @@ pub const EXPLANATIONS: &[Explanation] = &[
         meaning: "A text has at most 16 classes, 8 fields a class, 64 methods, 12 `var` lines a \
                   block, 256 statement lines (`else`, `join`, `again` and `end` counted), and \
                   branches and loops that nest 4 deep.",
-        mend: "lines that recur go into a method, where they count once, and so do the inner branches \
+        advice: "lines that recur go into a method, where they count once, and so do the inner branches \
                and loops; fields go into a second class with a link to it; or split the script",
         example: example!("refused-05"),
     },
@@ -122,7 +122,7 @@ pub const EXPLANATIONS: &[Explanation] = &[
                   belongs to the class of the variable before it. `requires` names only `this` and \
                   the parameter, `ensures` also `result`; main has none of the three. `int`, `null`, \
                   `this` and `result` are reserved.",
-        mend: "declare the name, look for a slip in its letters, or look up which class has the field",
+        advice: "declare the name, look for a slip in its letters, or look up which class has the field",
         example: example!("refused-06"),
     },
     Explanation {
@@ -133,7 +133,7 @@ pub const EXPLANATIONS: &[Explanation] = &[
                   `add` and `sub` are int. Only a variable of a class has fields and methods. The \
                   variable of `new` is of that class. The field of a `chain`, an `open` or a `shut` \
                   has the class of its x as its type, and the y of `open y x f` is of that class.",
-        mend: "give both sides one type: change the declaration, or name another variable",
+        advice: "give both sides one type: change the declaration, or name another variable",
         example: example!("refused-07"),
     },
     Explanation {
@@ -141,7 +141,7 @@ pub const EXPLANATIONS: &[Explanation] = &[
         title: "the text ends before main's `end`",
         meaning: "A text ends with a block `main`, and that block with `end`. The line given is the \
                   last one.",
-        mend: "add what is missing after the last line; an `else`, `join`, `again` or `end` that is \
+        advice: "add what is missing after the last line; an `else`, `join`, `again` or `end` that is \
                missing before other lines is number 4, at the line that comes in its place",
         example: example!("refused-08"),
     },
@@ -151,7 +151,7 @@ pub const EXPLANATIONS: &[Explanation] = &[
         meaning: "`let`, `new`, `call`, `add`, `sub` and `open` may not assign `this`, the parameter \
                   or `result`; the x of `call x y m z` may be neither y nor z, and the y of \
                   `open y x f` not x.",
-        mend: "assign a local variable instead; `return` is what sets `result`",
+        advice: "assign a local variable instead; `return` is what sets `result`",
         example: example!("refused-09"),
     },
     Explanation {
@@ -161,7 +161,7 @@ pub const EXPLANATIONS: &[Explanation] = &[
                   read only after `acc x f` or `read x f`, by these two names, in the same line. The \
                   condition of a `loop` reads only paths whose `acc` or `read` is in the invariant \
                   after it. `chain x f` does not serve for `x.f`.",
-        mend: "write `acc x f` or `read x f` before the atom that reads `x.f`; for a loop's \
+        advice: "write `acc x f` or `read x f` before the atom that reads `x.f`; for a loop's \
                condition, into its invariant; a link of a chain is read after `open`, in the body",
         example: example!("refused-10"),
     },
@@ -170,7 +170,7 @@ pub const EXPLANATIONS: &[Explanation] = &[
         title: "a path that does not resolve",
         meaning: "The line reads `x.f`, but no permission to it is known here, neither whole nor \
                   half: not for x, nor for anything known to be equal to x.",
-        mend: "keep or ask for the permission before this line: in `requires`, in the `ensures` of \
+        advice: "keep or ask for the permission before this line: in `requires`, in the `ensures` of \
                the method called before, in the `join` or `loop` before, or by not releasing it; a \
                path that is in a chain is there after `open`",
         example: example!("refused-11"),
@@ -183,7 +183,7 @@ pub const EXPLANATIONS: &[Explanation] = &[
                   same formula gives it. `set` needs `acc`, and a `read`, which is a half, never gives \
                   an `acc`. `open` takes a chain. `shut x f` takes the chain of the card that `x.f` \
                   leads to, and `acc x f`.",
-        mend: "ask for it in `requires`, give it back in `ensures`, keep it in `join` or in the \
+        advice: "ask for it in `requires`, give it back in `ensures`, keep it in `join` or in the \
                invariant of a `loop`, which is shown before the first round and at each `again`; a \
                formula with `acc x f` twice needs two objects; a half that a method was handed by \
                `read` comes back by a `read` in its `ensures`; a chain that was opened is one again \
@@ -199,8 +199,8 @@ pub const EXPLANATIONS: &[Explanation] = &[
                   a call is handed what `ensures` says. After `join` only its formula is known, in \
                   a loop only the invariant and the condition, after it the invariant and the \
                   condition's opposite. `open y x f` wants x not to be null.",
-        mend: "state the fact where it is lost: in `ensures`, in `join`, in `loop`, or by `if`; what \
-               a loop's body makes false can not be in its invariant",
+        advice: "state the fact where it is lost: in `ensures`, in `join`, in `loop`, or by `if`; what \
+               a loop's body makes false cannot be in its invariant",
         example: example!("refused-13"),
     },
     Explanation {
@@ -208,7 +208,7 @@ pub const EXPLANATIONS: &[Explanation] = &[
         title: "the checker's state is full",
         meaning: "At most 64 permissions and 64 facts can be known at one line; a chain is one \
                   permission. The line would add one more.",
-        mend: "move a part into a method, whose contract keeps only what is needed, or let a `join` \
+        advice: "move a part into a method, whose contract keeps only what is needed, or let a `join` \
                or `loop` do so; `release` makes room for permissions",
         example: example!("refused-14"),
     },
@@ -218,7 +218,7 @@ pub const EXPLANATIONS: &[Explanation] = &[
         meaning: "How often a `loop` goes round, and how often a method calls itself, by way of \
                   others too, shows in a run alone: no bound is known before it. Methods that main \
                   does not call count too. Only bound refuses so; check accepts the text.",
-        mend: "run it with as many steps as it may take, and number 21 stops it there; or write the \
+        advice: "run it with as many steps as it may take, and number 21 stops it there; or write the \
                rounds as lines, or as calls of a method that does one",
         example: example!("refused-15"),
     },
@@ -228,7 +228,7 @@ pub const EXPLANATIONS: &[Explanation] = &[
         meaning: "Main's statement lines, with those of the methods that they call, as often as they \
                   call them, are above 1,000,000 in all. Only bound refuses so; check accepts the \
                   text.",
-        mend: "run it with as many steps as it may take, and number 21 stops it there; or call less: \
+        advice: "run it with as many steps as it may take, and number 21 stops it there; or call less: \
                methods that each call the next one twice double the bound every time",
         example: example!("refused-16"),
     },
@@ -239,7 +239,7 @@ pub const EXPLANATIONS: &[Explanation] = &[
                   and of the parameter, in the place of the star does check accept the text. The \
                   fault may also stand elsewhere, in a line that the star has nothing to do with. \
                   Only fill refuses so; check refuses the star itself, with number 4.",
-        mend: "write `requires` by hand and let check say which line is refused: it may need a fact, \
+        advice: "write `requires` by hand and let check say which line is refused: it may need a fact, \
                a `read` or a `chain`, a permission to a further object, more than 4 permissions, or \
                an `ensures` that gives back what the caller lacks",
         example: example!("refused-17"),
@@ -247,10 +247,10 @@ pub const EXPLANATIONS: &[Explanation] = &[
     Explanation {
         number: 18,
         title: "no `requires *` to be filled in, or a second one",
-        meaning: "One method of the text has a line `requires *`, `requires` and `*` parted by a tab. \
+        meaning: "One method of the text has a line `requires *`, `requires` and `*` separated by a tab. \
                   The line given is that of the second star, 0 if there is none. Only fill refuses \
                   so; check refuses a star with number 4.",
-        mend: "put the star in the place of all atoms of the one `requires` line that is to be filled \
+        advice: "put the star in the place of all atoms of the one `requires` line that is to be filled \
                in, and write the others by hand",
         example: example!("refused-18"),
     },
@@ -260,7 +260,7 @@ pub const EXPLANATIONS: &[Explanation] = &[
         meaning: "A count takes 1 to 4 scripts, and gives each a share of the 256 objects, at least 1. \
                   There is no script, or a fifth, a share is 0, or the shares are above 256 \
                   together. No script is read. Only count refuses so.",
-        mend: "give at most 4 scripts, each a share of 1 or more objects, at most 256 in all",
+        advice: "give at most 4 scripts, each a share of 1 or more objects, at most 256 in all",
         example: None,
     },
     Explanation {
@@ -270,7 +270,7 @@ pub const EXPLANATIONS: &[Explanation] = &[
                   the method's `end` none after it; in a loop each `again` is one, and each arrival \
                   at the `loop`. In a count each round is one for each script. The line given is the \
                   one that would have come next.",
-        mend: "allow more steps, or look for a loop that never ends or a method that calls itself without end",
+        advice: "allow more steps, or look for a loop that never ends or a method that calls itself without end",
         example: example!("stopped-21"),
     },
     Explanation {
@@ -278,7 +278,7 @@ pub const EXPLANATIONS: &[Explanation] = &[
         title: "the heap is full",
         meaning: "A run makes at most 256 objects with 1,024 fields in all, a script of a count as many \
                   objects as its share has, with 4 times as many fields. Objects are never taken back.",
-        mend: "make fewer objects, or classes with fewer fields; in a count, give the script a larger \
+        advice: "make fewer objects, or classes with fewer fields; in a count, give the script a larger \
                share",
         example: example!("stopped-22"),
     },
@@ -287,7 +287,7 @@ pub const EXPLANATIONS: &[Explanation] = &[
         title: "the frames are full",
         meaning: "At most 64 blocks are open at a time, main's among them: calls nest at most 63 \
                   deep.",
-        mend: "look for a method that calls itself without end, or make the chain of calls shorter",
+        advice: "look for a method that calls itself without end, or make the chain of calls shorter",
         example: example!("stopped-23"),
     },
     Explanation {
@@ -296,7 +296,7 @@ pub const EXPLANATIONS: &[Explanation] = &[
         meaning: "The running block does not hold the field that the line reads, writes or claims, \
                   or only a half of one that it writes or claims whole, or a chain goes over a card \
                   whose link it does not hold whole. An accepted text never stops so.",
-        mend: "check the text: the refused line says which permission is not handed over",
+        advice: "check the text: the refused line says which permission is not handed over",
         example: example!("stopped-24"),
     },
     Explanation {
@@ -304,7 +304,7 @@ pub const EXPLANATIONS: &[Explanation] = &[
         title: "null was followed",
         meaning: "The line reads or claims a field of null, opens or shuts a chain there, or calls a \
                   method of null. An accepted text never stops so.",
-        mend: "check the text; test by `if ne x null` before following x",
+        advice: "check the text; test by `if ne x null` before following x",
         example: example!("stopped-25"),
     },
     Explanation {
@@ -314,7 +314,7 @@ pub const EXPLANATIONS: &[Explanation] = &[
                   of a `loop`, the `requires` of a call or the `ensures` of a method; or the chain that \
                   the line goes over leads back to one of its cards. An accepted text never stops \
                   so.",
-        mend: "check the text, and compare the values that the run left with the formula",
+        advice: "check the text, and compare the values that the run left with the formula",
         example: example!("stopped-26"),
     },
     Explanation {
@@ -323,7 +323,7 @@ pub const EXPLANATIONS: &[Explanation] = &[
         meaning: "An `add` or `sub` would give less than -2147483648 or more than 2147483647. The \
                   step is not done, and the variable keeps its value. The checker does not compute, \
                   so an accepted text may stop so too.",
-        mend: "test before adding, by `if eq` the number at which counting must end, or keep counts \
+        advice: "test before adding, by `if eq` the number at which counting must end, or keep counts \
                small",
         example: example!("stopped-27"),
     },

@@ -165,7 +165,7 @@ impl NotFilled {
     }
 }
 
-/// The atom, its fields parted by tabs.
+/// The atom, its fields separated by tabs.
 impl fmt::Display for Permission<'_> {
     fn fmt(&self, f: &mut fmt::Formatter<'_>) -> fmt::Result {
         write!(f, "acc\t{}\t{}", self.variable, self.field)

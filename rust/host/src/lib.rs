@@ -9,7 +9,7 @@
 //! # Ok::<(), nuyardi::Refusal>(())
 //! ```
 //!
-//! A refusal names a line and says what usually mends it:
+//! A refusal names a line and says what usually helps:
 //!
 //! ```
 //! let refusal = nuyardi::check(b"main\nlet\ta\t7\nend\n").unwrap_err();

@@ -35,7 +35,7 @@ fn numbers_and_kinds() {
         );
     }
     for known in nuyardi::EXPLANATIONS {
-        for words in [known.title, known.meaning, known.mend] {
+        for words in [known.title, known.meaning, known.advice] {
             assert!(words.len() > 10 && !words.contains("  "), "{words}");
             assert!(!words.contains("`station "), "{words}");
         }
@@ -61,7 +61,7 @@ fn sizes_in_words() {
     use nuyardi::limits::*;
     let said = |number: u32, sizes: &[usize]| {
         let known = nuyardi::explain(number).expect("an explanation");
-        let words = format!("{} {}", known.meaning, known.mend).replace(',', "");
+        let words = format!("{} {}", known.meaning, known.advice).replace(',', "");
         let words: Vec<&str> = words.split_whitespace().collect();
         for size in sizes {
             assert!(
@@ -87,7 +87,7 @@ fn sizes_in_words() {
 }
 
 /// Answers, kinds and variables for generated texts, by an API that keeps its
-/// areas and by one that makes them anew.
+/// areas and by one that makes new ones.
 #[test]
 fn generated_texts() {
     let mut station = Station::new();
@@ -388,6 +388,6 @@ fn a_refusal_is_an_error() {
     }
     assert_eq!(checked(b"main\nend\n").expect("accepted"), 1);
     let error = checked(b"main\nend").expect_err("the last line is not ended");
-    let words = "line 2: a byte that may not stand in a text (number 3); part fields by tabs";
+    let words = "line 2: a byte that may not stand in a text (number 3); separate fields by tabs";
     assert!(error.to_string().starts_with(words), "{error}");
 }

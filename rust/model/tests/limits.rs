@@ -257,7 +257,7 @@ fn permissions_of_a_state() {
     let one_more = |calls: Vec<String>| [calls, vec!["new c9 C".to_string()]].concat();
     assert_eq!(check_with(7, one_more(calls(8))), (0, 0));
     assert_eq!(check_with(7, one_more(calls(9))), (14, 45));
-    // A variable assigned anew gives its own permissions up first.
+    // A variable assigned again gives its own permissions up first.
     let again = [calls(8), calls(8)].concat();
     assert_eq!(check_with(8, again), (0, 0));
     let released = [

@@ -27,7 +27,7 @@ pub struct Paper {
     blocks: Vec<Block>,
 }
 
-/// Words parted by one blank, without the marks of code and of proved examples: these are the paper's dress, not its words.
+/// Words separated by one blank, without the marks of code and of proved examples: these are the paper's dress, not its words.
 pub fn plain(text: &str) -> String {
     let bare = text.replace(['`', '*'], "");
     bare.split_whitespace().collect::<Vec<_>>().join(" ")

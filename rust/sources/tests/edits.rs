@@ -16,7 +16,7 @@ fn every_edit_has_its_place() {
     let faults: Vec<String> = faults.collect();
     expect_none(
         &faults,
-        "each `old:` must stand in its file exactly once: make the edit anew",
+        "each `old:` must stand in its file exactly once: make the edit again",
     );
 }
 

@@ -42,14 +42,14 @@ fn agreed<'a>(text: &'a [u8], bound: Result<Bound, NoBound>) -> Option<Script<'a
     Script::of(text).filter(|_| same)
 }
 
-/// The dearest route, where no call leads back.
+/// The most expensive route, where no call leads back.
 fn route(script: &Script, bound: Result<Bound, NoBound>) -> Vec<Leg> {
     match bound {
         Ok(_)
         | Err(NoBound::Accepted {
             excess: Excess::BoundPassed,
             ..
-        }) => Routes::of(script).dearest(),
+        }) => Routes::of(script).costliest(),
         Err(_) => Vec::new(),
     }
 }

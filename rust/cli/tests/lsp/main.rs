@@ -44,8 +44,8 @@ fn diagnostics_as_one_types() {
         message.contains("`acc this n`") && message.contains("fix: "),
         "{message}"
     );
-    let mended = example("refused-12.script").replace("requires", "requires\tacc\tthis\tn");
-    assert_eq!(codes(&client.change(&mended)), [unused]);
+    let fixed = example("refused-12.script").replace("requires", "requires\tacc\tthis\tn");
+    assert_eq!(codes(&client.change(&fixed)), [unused]);
     // Columns are units of UTF-16: the sign takes two.
     let found = client.change("main\n\u{1f600} \nend\n");
     assert_eq!(

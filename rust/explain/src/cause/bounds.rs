@@ -110,7 +110,7 @@ fn others(script: &Script, routes: &Routes, first: usize) -> Vec<String> {
 /// A bound above the limit, and the method that has most of it.
 fn passed(script: &Script) -> Cause {
     let routes = Routes::of(script);
-    let all = routes.dearest().first().map_or(0, |main| main.bound);
+    let all = routes.costliest().first().map_or(0, |main| main.bound);
     let (block, times) = routes.heaviest();
     let lines = script.program.body(block).len() as u128;
     let said = format!(

@@ -31,7 +31,7 @@ const LATIN: char = '\u{250}';
 /// What a character is, and what to write for it.
 fn described(letter: char) -> (String, &'static str) {
     let known = match letter {
-        ' ' => ("a blank; fields are parted by one tab", FORMAT),
+        ' ' => ("a blank; fields are separated by one tab", FORMAT),
         '\r' => ("a CR; lines end in LF alone", FORMAT),
         '\u{feff}' => ("a byte order mark (U+FEFF)", FORMAT),
         '\u{a0}' | '\u{202f}' | '\u{2007}' => ("a no-break blank", FORMAT),
