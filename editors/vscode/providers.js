@@ -5,7 +5,7 @@ const vscode = require('vscode');
 const range = (r) => new vscode.Range(r.start.line, r.start.character, r.end.line, r.end.character);
 const edit = (e) => new vscode.TextEdit(range(e.range), e.newText);
 
-/** The protocol counts the kinds of symbols and completions from 1, the editor from 0. */
+/** The protocol counts severities and the kinds of symbols and completions from 1, the editor from 0. */
 const kind = (number) => number - 1;
 
 const place = ({ line, character }) => ({ line, character });
@@ -16,7 +16,9 @@ const about = (document, position) => ({
 
 function diagnostic(one) {
   const made = new vscode.Diagnostic(range(one.range), one.message);
-  made.code = { value: one.code, target: vscode.Uri.parse(one.codeDescription.href) };
+  const guide = one.codeDescription;
+  made.code = guide ? { value: one.code, target: vscode.Uri.parse(guide.href) } : one.code;
+  made.severity = kind(one.severity);
   made.source = one.source;
   return made;
 }
