@@ -140,6 +140,7 @@ fn the_extension_for_vs_code() {
     let answer = seen_in_the_editor("vscode", "examples/refused-12.script", &path(), person);
     let opened = list(&answer, "opened");
     assert_eq!(opened[0].at(&["code", "value"]), Some(&Json::Int(12)));
+    assert_eq!(opened[0].get("severity"), Some(&Json::Int(0)));
     assert_eq!(
         text(&opened[0], &["code", "target", "uri"]),
         "station:explain/12"
