@@ -1,14 +1,14 @@
 -- W6's promises for what `station::bound` and `station::run` return: by their contracts they return, and leave in the areas, what
 -- `boundCall` and `runCall` say. The statement is that of specs/Promises.
 use mathlib.Core.Path.{_≡_, refl, sym, ap, _∙_}
-use mathlib.Core.List.{List, [], _++_}
+use mathlib.Core.List.{List, []}
 use Prim.Native.Nat.{ℕ}
 use native.Mathlib.Omega.{arith}
 use lib.ListN.{length}
 use borrow.Author.Tests.{eq-eqb}
 use Rattle.rules.specs.Limits.{work-bytes, bounds-bytes}
 use Rattle.rules.specs.Calls.{runText, boundText}
-use Rattle.rules.specs.Areas.{packed, wordBytes, wordsBytes, resultBytes, boundBytes, boundCall, numberIn}
+use Rattle.rules.specs.Areas.{packed, wordsBytes, resultBytes, boundBytes, boundCall, numberIn}
 use Rattle.tables.specs.Decode.{wordAt}
 use Rattle.bound_runs.proofs.Promises.{never-passed, enough-steps, frames-enough, frames-fit, bound-small, frames-small}
 use Rattle.widths.proofs.Words.{word-first, word-on}
