@@ -217,8 +217,8 @@ fn what_a_number_means() {
     let Json::List(actions) = client.ask("textDocument/codeAction", asked("quickfix")) else {
         panic!("no list");
     };
-    let refusal = Json::List(found[..1].to_vec());
-    assert_eq!(actions[0].get("diagnostics"), Some(&refusal));
+    let fixed = Json::List(vec![found[0].clone()]);
+    assert_eq!(actions[0].get("diagnostics"), Some(&fixed));
     let action = actions.iter().find_map(|action| action.get("command"));
     let action = action.expect("a command").clone();
     // The message comes before the reply.
