@@ -65,6 +65,12 @@ class Explained(unittest.TestCase):
         said = nuyardi.explain(example("refused-12.script"))
         self.assertEqual((said["accepted"], said["number"], said["line"]), (False, 12, 6))
         self.assertIn("acc this n", said["cause"])
+        self.assertEqual(said["headline"], "nobody gave `m` of class S the permission to `this.n`")
+
+    def test_warnings(self):
+        said = nuyardi.explain(example("follow.script"))
+        self.assertEqual([(one["kind"], one["line"]) for one in said["warnings"]], [("unused-permission", 5)])
+        self.assertEqual(nuyardi.explain(example("tag.script"))["warnings"], [])
 
     def test_every_example_as_check(self):
         for path in sorted((ROOT / "examples").iterdir()):

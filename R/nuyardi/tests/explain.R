@@ -59,7 +59,8 @@ if (nzchar(library_there) && requireNamespace("jsonlite", quietly = TRUE)) {
   Sys.setenv(NUYARDI_EXPLAIN_LIBRARY = library_there)
   refused <- "main\nassert\teq\t1\t2\nend\n"
   said <- station_explain(refused)
-  stopifnot(!said$accepted, said$number == 13L, said$line == 2L, nzchar(said$cause))
+  stopifnot(!said$accepted, said$number == 13L, said$line == 2L, nzchar(said$cause), nzchar(said$headline))
+  stopifnot(identical(station_explain("main\nvar\tint\ta\nend\n")$warnings$kind, "unused-variable"))
   ended <- station_explain_run(text)
   stopifnot(ended$finished, ended$steps == 2L, identical(ended$variables$name, "a"))
   steps <- station_trace(text)

@@ -4,13 +4,15 @@ use model::machine::{Locations, Machine, Step, Values};
 use model::names::Action;
 use model::number::Stop;
 
-/// A loop that a frame is in: how deep the frame is, the place of the `loop`, and
-/// the rounds that are done.
+/// A loop that a frame is in: how deep the frame is, the place of the `loop`, the
+/// rounds that are done, and the values before and after the last of them.
 #[derive(Clone, Copy, Debug, PartialEq, Eq)]
 pub struct Open {
     pub depth: usize,
     pub place: usize,
     pub rounds: u32,
+    pub before: Values,
+    pub after: Values,
 }
 
 /// So many further steps are tried for a state that came before.
@@ -41,15 +43,19 @@ impl Rounds {
     /// condition is false, or its frame is left.
     pub fn step(&mut self, machine: &mut Machine) -> Result<Step, Stop> {
         let (depth, place) = (machine.frames.len(), machine.frame().next);
+        let values = machine.frame().values;
         match machine.statement().action {
             Action::Loop(_) if self.innermost(machine).is_none() => self.open.push(Open {
                 depth,
                 place,
                 rounds: 0,
+                before: values,
+                after: values,
             }),
             Action::Again(_) => {
                 if let Some(open) = self.open.last_mut() {
                     open.rounds += 1;
+                    (open.before, open.after) = (open.after, values);
                 }
             }
             _ => {}

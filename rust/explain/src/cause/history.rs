@@ -1,6 +1,7 @@
 //! What a run did before it stopped: which line gave each variable and field its
 //! value, and where each permission went.
 
+use super::sources::Sources;
 use crate::rounds::Rounds;
 use crate::script::{quoted, Names, Script};
 use model::machine::{location, Location, Locations, Machine, Step, Values};
@@ -25,6 +26,14 @@ enum Went {
     Kept(usize),
 }
 
+/// Does a statement move permissions from one frame to another, or away?
+fn moves(action: &Action) -> bool {
+    matches!(
+        action,
+        Action::Call(_) | Action::Release(_) | Action::Return(_) | Action::End
+    )
+}
+
 /// What a replay writes down.
 #[derive(Default)]
 pub struct Trail {
@@ -32,6 +41,8 @@ pub struct Trail {
     vars: Vec<[At; VARS]>,
     /// The step that wrote each field last.
     fields: Vec<At>,
+    /// The steps in which these values came about; those that copy them do not count.
+    sources: Sources,
     /// How the permission to each field was last given away.
     went: Vec<Option<(At, Went)>>,
     pub rounds: Rounds,
@@ -43,6 +54,7 @@ impl Trail {
         let mut machine = Machine::new(&script.program);
         let mut trail = Trail {
             vars: vec![[At::default(); VARS]],
+            sources: Sources::new(),
             ..Trail::default()
         };
         while machine.steps < steps && trail.step(&mut machine) == Ok(Step::On) {}
@@ -51,13 +63,17 @@ impl Trail {
 
     fn step(&mut self, machine: &mut Machine) -> Result<Step, Stop> {
         let statement = machine.statement();
-        let frame = *machine.frame();
+        let values = machine.frame().values;
+        let held = moves(&statement.action).then(|| machine.frame().held);
+        let (block, next) = (machine.frame().block, machine.frame().next);
         let depth = machine.frames.len();
         let done = self.rounds.step(machine)?;
         let at = At {
             step: machine.steps,
             line: statement.line,
         };
+        self.sources.step(machine, &statement.action, &values, at);
+        let held = held.unwrap_or_default();
         match &statement.action {
             Action::Let(x, _) => self.vars[depth - 1][*x] = at,
             Action::Compute(compute) => self.vars[depth - 1][compute.x] = at,
@@ -68,7 +84,7 @@ impl Trail {
                 self.went.resize(machine.heap.len(), None);
             }
             Action::Set(path, _) => {
-                if let Some(place) = location(&machine.objects, &frame.values, *path) {
+                if let Some(place) = location(&machine.objects, &values, *path) {
                     self.fields[place] = at;
                 }
             }
@@ -77,13 +93,15 @@ impl Trail {
                 (own[THIS], own[PARAM]) = (at, at);
                 self.vars.push(own);
                 let left = machine.frames[depth - 1].held;
-                self.leave(&frame.held.without(&left), at, Went::Called(call.method));
+                self.leave(&held.without(&left), at, Went::Called(call.method));
             }
             Action::Release(_) => {
                 let left = machine.frame().held;
-                self.leave(&frame.held.without(&left), at, Went::Released);
+                self.leave(&held.without(&left), at, Went::Released);
             }
-            Action::Return(_) | Action::End if depth > 1 => self.back(machine, &frame, at),
+            Action::Return(_) | Action::End if depth > 1 => {
+                self.back(machine, (block, next), &held, at);
+            }
             _ => {}
         }
         Ok(done)
@@ -97,19 +115,29 @@ impl Trail {
 
     /// A method ended: its caller's variable has the result, and what is not given
     /// back is gone.
-    fn back(&mut self, machine: &Machine, frame: &model::machine::Frame, at: At) {
+    fn back(&mut self, machine: &Machine, left: (usize, usize), held: &Locations, at: At) {
+        let (block, next) = left;
         self.vars.pop();
         let caller = machine.frame();
         let call = &machine.program.statements[caller.next - 1];
-        if let (Action::Call(call), Some(own)) = (&call.action, self.vars.last_mut()) {
-            own[call.x] = at;
+        let x = match &call.action {
+            Action::Call(call) => Some(call.x),
+            _ => None,
+        };
+        if let Some((x, own)) = x.zip(self.vars.last_mut()) {
+            own[x] = at;
         }
+        let returned = match machine.program.statements[next].action {
+            Action::Return(var) => Some(var),
+            _ => None,
+        };
+        self.sources.back(x, returned, at);
         // What is given back has gone nowhere.
-        for place in frame.held.without(&Locations::default()) {
+        for place in held.without(&Locations::NONE) {
             self.went[place] = None;
         }
-        let kept = frame.held.without(&caller.held);
-        self.leave(&kept, at, Went::Kept(frame.block));
+        let kept = held.without(&caller.held);
+        self.leave(&kept, at, Went::Kept(block));
     }
 
     /// "line 9 (step 4): `let p c.prev`".
@@ -126,6 +154,23 @@ impl Trail {
             _ if var == RESULT => return None,
             0 => format!("no line has assigned `{name}`, and it starts so"),
             _ => format!("`{name}` got its value at {}", Trail::told(script, at)),
+        })
+    }
+
+    /// Where the null of a variable came about, if another line than the one that gave
+    /// it to the variable did that.
+    pub fn null_from(&self, script: &Script, var: Var) -> Option<String> {
+        let (given, source) = (self.vars.last()?[var], self.sources.of_var(var)?);
+        if given.step == 0 || given == source {
+            return None;
+        }
+        let place = script.statement_at(source.line);
+        let action = place.map(|place| &script.program.statements[place].action);
+        let told = Trail::told(script, source);
+        Some(match action {
+            None => "this null is what a variable starts as".to_string(),
+            Some(Action::New(..)) => format!("this null is what a link starts as, at {told}"),
+            Some(_) => format!("this null came about at {told}"),
         })
     }
 
@@ -317,6 +362,56 @@ mod tests {
         assert_eq!((run.number, run.line), (24, 11));
         let cause = stop_cause(text.as_bytes(), Room::WHOLE, run.steps, 24).expect("a cause");
         assert_eq!(cause.notes, ["main has the permission to `this.n`"]);
+    }
+
+    /// A null is followed back over copies to the line that made it.
+    #[test]
+    fn where_a_null_came_about() {
+        for (lines, note) in [
+            (
+                "new a C|let b a.p|let c b|let d c.p",
+                Some("this null is what a link starts as, at line 8 (step 1): `new a C`"),
+            ),
+            (
+                "let a null|let b a|let c b|let d c.p",
+                Some("this null came about at line 8 (step 1): `let a null`"),
+            ),
+            (
+                "let b a|let c b|let d c.p",
+                Some("this null is what a variable starts as"),
+            ),
+            ("let c null|let d c.p", None),
+            (
+                "new a C|new b C|set a p b|let c a.p|let c c.p|let d c.p",
+                Some("this null is what a link starts as, at line 9 (step 2): `new b C`"),
+            ),
+        ] {
+            let start = "class C|field C p|main|var C a|var C b|var C c|var C d";
+            let text = format!("{start}|{lines}|end|");
+            let text = text.replace(' ', "\t").replace('|', "\n");
+            let run = model::trial(text.as_bytes(), 100);
+            assert_eq!(run.number, 25);
+            let cause = stop_cause(text.as_bytes(), Room::WHOLE, run.steps, 25).expect("a cause");
+            assert_eq!(cause.notes.get(1).map(String::as_str), note, "{lines}");
+        }
+    }
+
+    /// The same over a call and a `return`.
+    #[test]
+    fn a_null_that_was_returned() {
+        let text = "class C|field C p|method C m C w|requires|ensures|var C v|let v w|return v|end\
+                    |main|var C a|var C b|var C c|new a C|let c null|call b a m c|let c b.p|end|";
+        let text = text.replace(' ', "\t").replace('|', "\n");
+        let run = model::trial(text.as_bytes(), 100);
+        assert_eq!((run.number, run.line), (25, 17));
+        let cause = stop_cause(text.as_bytes(), Room::WHOLE, run.steps, 25).expect("a cause");
+        assert_eq!(
+            cause.notes,
+            [
+                "`b` got its value at line 8 (step 5): `return v`",
+                "this null came about at line 15 (step 2): `let c null`",
+            ]
+        );
     }
 
     #[test]

@@ -17,6 +17,7 @@ mod names;
 mod places;
 pub(crate) mod route;
 pub(crate) mod rules;
+mod sources;
 mod stopped_chains;
 mod stopped_halves;
 mod stops;

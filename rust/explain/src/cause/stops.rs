@@ -188,10 +188,14 @@ fn history(script: &Script, machine: &Machine, trail: &Trail, halt: Halt) -> Vec
             found.extend(went.filter(|_| none));
             found.extend(same_card(&names, &values, path.var));
         }
-        (Stop::NullFollowed, Some(path)) => found.extend(var(path.var)),
-        (Stop::NullFollowed, None) => {
-            if let Action::Call(call) = machine.statement().action {
-                found.extend(var(call.y));
+        (Stop::NullFollowed, path) => {
+            let receiver = match machine.statement().action {
+                Action::Call(call) => Some(call.y),
+                _ => None,
+            };
+            if let Some(null) = path.map(|path| path.var).or(receiver).filter(|_| inside) {
+                found.extend(var(null));
+                found.extend(trail.null_from(script, null));
             }
         }
         (Stop::FormulaFalse, _) => {
@@ -252,7 +256,7 @@ fn in_a_loop(script: &Script, steps: u32) -> Option<Cause> {
         statement.line, open.rounds
     );
     let loops = open_loops(script, &trail);
-    let notes = [reads(script, opened), moves(script, looked, open)];
+    let notes = [reads(script, opened), moves(script, open)];
     let loops = loops.into_iter().filter(|_| trail.rounds.all().len() > 1);
     let notes: Vec<String> = notes.into_iter().flatten().chain(loops).collect();
     let cause = match trail.rounds.for_ever(&mut machine, open) {
@@ -311,7 +315,7 @@ fn reads(script: &Script, opened: &model::names::Loop) -> Option<String> {
 
 /// By how much the numbers that the condition of a loop reads moved in the last
 /// round that was done.
-fn moves(script: &Script, steps: u32, open: Open) -> Option<String> {
+fn moves(script: &Script, open: Open) -> Option<String> {
     let place = open.place;
     let Action::Loop(opened) = &script.program.statements[place].action else {
         return None;
@@ -320,17 +324,7 @@ fn moves(script: &Script, steps: u32, open: Open) -> Option<String> {
         return None;
     };
     let names = script.names_at(place);
-    let mut arrivals: [Option<Values>; 2] = [None; 2];
-    let mut machine = Machine::new(&script.program);
-    while machine.steps < steps {
-        if (machine.frames.len(), machine.frame().next) == (open.depth, place) {
-            arrivals = [arrivals[1], Some(machine.frame().values)];
-        }
-        if machine.step() != Ok(Step::On) {
-            break;
-        }
-    }
-    let (one, other) = arrivals[0].zip(arrivals[1])?;
+    let (one, other) = (open.before, open.after);
     let moved = [left, right].into_iter().filter_map(|side| {
         let Expr::Var(var) = side else { return None };
         let int = names.kind(var) == Some(Type::Int);
