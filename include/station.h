@@ -157,8 +157,9 @@ uint32_t station_bound(const uint8_t *text, size_t text_len,
  * set of at most STATION_FILLED permissions `acc x f` with which station_check accepts
  * the text, apart from its length: places from 1, rising, a byte each, then zeros. The
  * places are the fields of the method's class in the order of their lines, with `this`
- * for x, then those of the parameter's class, if it has one, with the parameter for x. Of two sets the one with fewer permissions comes first, then the one
- * with the earlier place where they first differ; a set may be empty.
+ * for x, then those of the parameter's class, if it has one, with the parameter for x.
+ * Of two sets the one with fewer permissions comes first, then the one with the
+ * earlier place where they first differ; a set may be empty.
  *
  *   returned          when                                   places area
  *   0                 there is such a set                    its places
