@@ -1,22 +1,22 @@
-# make                      the command and the libraries; proves what is not proved yet
+# make                      builds the command and the libraries; proves what is not proved yet
 # make check                the gate: every proof, every must-fail edit, every test
 # make install PREFIX=DIR   builds and installs (DESTDIR for packages); make uninstall removes it again
 # make index                target/INDEX.md: each sentence of the papers, its definitions, laws and code
-# make soak                 the library beside the model on 10 million texts, and a tenth of that each with stars and in counts (TEXTS=N for another number)
+# make soak                 compares the library with the model on 10 million texts, and on a tenth of that each with stars and in counts (TEXTS=N for another number)
 # make same-bytes           builds libstation.a in two folders and compares the two
 # make from-source          proves soundness, the claim, in one run from sources alone, with nothing taken from a built logic or an earlier check
 # make interpreted          the compiled calls beside the kit's interpreter
 # make wheel                the Python package with the shared library inside; make check-python tests it
-# make check-r              R CMD check of the package for R, where R is installed
+# make check-r              R CMD check of the package for R, if R is installed
 # make deb                  Debian packages of the command and the libraries; make check-deb installs and removes them in a test folder
-# make dist                 the source archive, with the sums of the proved library; make check-dist unpacks it and compares them
+# make dist                 the source archive, with the checksums of the proved library; make check-dist unpacks it and compares them
 # make mutants              how many wrong definitions the examples refuse
 #
-# STATION_LIB names a libstation.a that is already made: then nothing is proved here. A relative path is one from this folder.
+# STATION_LIB names an existing libstation.a: then nothing is proved here. A relative path is one from this folder.
 
 PREFIX ?= /usr/local
 VERSION := $(shell cat VERSION)
-# The first number of the version, which is that of the soname.
+# The first number of the version, which is also that of the soname.
 MAJOR := $(firstword $(subst ., ,$(VERSION)))
 
 bindir = $(PREFIX)/bin
@@ -32,7 +32,7 @@ cratedir = $(owndir)/rust/host
 COMMAND ?= rust/target/release/station
 LIBRARY ?= target/libnuyardi.a
 SHARED ?= target/libnuyardi.so
-# The library of explanations: built where its crate is there, installed where it is built.
+# The library of explanations: built if its crate exists, installed if it is built.
 EXPLAIN ?= rust/target/release/libnuyardi_explain.so
 INSTALL ?= install
 CARGO ?= cargo
@@ -69,7 +69,7 @@ check:
 install: all
 	$(MAKE) install-files
 
-# These only copy; what they copy was built before.
+# These only copy what was built before.
 install-files: install-command install-shared install-dev
 
 # The command, the documents and the editors' files.
@@ -86,7 +86,7 @@ install-command:
 	$(INSTALL) -m 644 docs/papers/*.md "$(DESTDIR)$(docdir)/papers"
 	for file in $$(find editors -type f); do $(INSTALL) -D -m 644 "$$file" "$(DESTDIR)$(owndir)/$$file" || exit 1; done
 
-# The shared libraries, as a program that is linked with them finds them.
+# The shared libraries, where a program that is linked with them finds them.
 install-shared:
 	$(INSTALL) -D -m 644 $(SHARED) "$(DESTDIR)$(libdir)/libnuyardi.so.$(VERSION)"
 	ln -sf libnuyardi.so.$(VERSION) "$(DESTDIR)$(libdir)/libnuyardi.so.$(MAJOR)"
@@ -127,7 +127,7 @@ index:
 	cd rust && $(CARGO) run --release --offline -q -p sources --example index >../target/INDEX.md
 	@echo target/INDEX.md
 
-# Twenty texts come of each seed.
+# Each seed gives twenty texts.
 TEXTS ?= 10000000
 soak: library
 	cd rust && $(CARGO) build --release --offline -p nuyardi --example compare

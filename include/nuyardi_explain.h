@@ -4,28 +4,28 @@
  *
  * Numbers, lines, steps and values are those of station.h's functions, which are
  * linked in. Causes, notes, fixes, steps and pictures come from a plain model of the
- * language, and are left out where it answers otherwise; no theorem is about them.
+ * language, and are left out if its answer differs; no theorem is about them.
  *
- * Each function returns how many bytes its answer has. If they are no more than
- * `capacity`, they stand in `out`; if they are more, nothing is written. No zero
- * byte ends them. Ask with capacity 0 first, then with as many bytes as were
- * returned:
+ * Each function returns the length of its answer in bytes. If it is at most
+ * `capacity`, the answer is written to `out`; if it is more, nothing is written.
+ * The answer has no terminating zero byte. Call it with capacity 0 first, then with
+ * the number of bytes that it returned:
  *
  *     size_t needed = nuyardi_explain(text, length, NULL, 0);
  *     char *out = malloc(needed);
  *     nuyardi_explain(text, length, out, needed);
  *
- * 0 is returned, and nothing written, for a null pointer with a length or a capacity
- * above 0, and if a fault inside is caught.
+ * A function returns 0 and writes nothing for a null pointer with a length or a
+ * capacity above 0, and if it catches an internal fault.
  *
- * What a caller must see to, since C can not:
- *  - each pointer points to as many bytes as the length or capacity beside it says,
- *    which may be read, and written if they are `out`'s;
- *  - `out` has none of the text in it, and nobody else writes to either meanwhile.
+ * The caller must ensure what C cannot:
+ *  - each pointer points to as many bytes as the length or capacity next to it says;
+ *    they may be read, and those of `out` may be written;
+ *  - `out` does not overlap the text, and nobody else writes to either meanwhile.
  *
  * Threads: nothing is kept between calls, which may run in parallel. Calls allocate
- * memory and give it back before they return; where there is none, the process is
- * aborted. No file is opened.
+ * memory and free it before they return; if there is none, the process is aborted.
+ * No file is opened.
  */
 #ifndef NUYARDI_EXPLAIN_H
 #define NUYARDI_EXPLAIN_H
@@ -37,15 +37,15 @@
 extern "C" {
 #endif
 
-/* Check's answer, with cause, notes and fix where it refuses the text: the JSON
+/* Check's answer, with cause, notes and fix if it refuses the text: the JSON
  * object that `station check --warn --json -` prints, with the warnings of the text.
  * docs/LANGUAGE.md lists its fields. */
 size_t nuyardi_explain(const uint8_t *text, size_t length,
                        char *out, size_t capacity);
 
-/* How a run of at most so many steps ends, with cause, notes and fix where it
- * stops: the JSON object that `station run --json --steps N -` prints. A text that
- * check refuses is not run. */
+/* How a run of at most `steps` steps ends, with cause, notes and fix if it stops:
+ * the JSON object that `station run --json --steps N -` prints. A text that check
+ * refuses is not run. */
 size_t nuyardi_explain_run(const uint8_t *text, size_t length, uint32_t steps,
                            char *out, size_t capacity);
 

@@ -3,24 +3,24 @@
  *
  * Each returns number * 65536 + line (STATION_NUMBER, STATION_LINE). For every
  * content of the text and of the areas, number, line and every byte of the areas
- * afterwards are those of the specification: that is proved of the code that is
+ * afterwards are those of the specification: this is proved about the code that is
  * compiled. The text is only read. After a call the work area is all zero, except
  * for number 1, which changes neither area.
  *
- * What a caller must see to, since C can not:
- *  - each pointer points to as many bytes as the length beside it says, which may
- *    be read, and written if they are an area's; with length 0 it may be null;
+ * The caller must ensure what C cannot:
+ *  - each pointer points to as many bytes as the length next to it says; they may be
+ *    read, and those of an area may be written; with length 0 it may be null;
  *  - an area overlaps neither the other one nor the text;
  *  - nobody else writes to the text or to an area during the call.
  * The bytes may hold anything, and need no alignment.
  *
  * Threads: nothing is kept between calls and there is no global state. Calls may
- * run in parallel on areas of their own; they may share a text. No call waits,
+ * run in parallel on separate areas; they may share a text. No call waits,
  * allocates, opens a file or calls back.
  * Stack: below STATION_STACK_BYTES (measured and tested, not proved). Signals are
  * left alone.
- * Platform: x86-64, System V calling convention; memset and the like are taken
- * from the C library.
+ * Platform: x86-64, System V calling convention; memset and the like come from the
+ * C library.
  */
 #ifndef STATION_H
 #define STATION_H
@@ -44,8 +44,8 @@ extern "C" {
 #define STATION_TEXT_BYTES 32768
 /* Values in the results area: main's variables in the order of their lines. */
 #define STATION_VALUES 12
-/* What a run has room for: objects, the fields of them all, and frames, main's
- * counted. */
+/* What a run has room for: objects, the fields of all of them, and frames, including
+ * main's. */
 #define STATION_OBJECTS 256
 #define STATION_FIELDS 1024
 #define STATION_FRAMES 64
@@ -53,8 +53,8 @@ extern "C" {
 #define STATION_BOUND 1000000
 /* The most permissions that a `requires *` is filled in with. */
 #define STATION_FILLED 4
-/* The most scripts of a count, what it leaves of each, in bytes, and the fields that
- * a script has for each object of its share. */
+/* The most scripts of a count, the length of each script's answer, in bytes, and the
+ * fields that a script has for each object of its share. */
 #define STATION_SCRIPTS 4
 #define STATION_SCRIPT_BYTES 56
 #define STATION_FIELDS_EACH 4
@@ -100,7 +100,7 @@ enum station_number {
 uint32_t station_check(const uint8_t *text, size_t text_len,
                        uint8_t *work, size_t work_len);
 
-/* Checks the text, and if it is accepted runs main for at most so many steps.
+/* Checks the text, and if it is accepted runs main for at most `steps` steps.
  * Returns number 1 if the work area or the results area has the wrong length; 2 to
  * 14 with the line, as station_check does; or 0, 21, 22, 23 or 27 with the line:
  * never 24, 25 or 26, whatever the text. The results area then holds the steps
@@ -111,10 +111,10 @@ uint32_t station_run(const uint8_t *text, size_t text_len,
                      uint32_t steps,
                      uint8_t *results, size_t results_len);
 
-/* Runs main as station_run does, without checking the text before: for trying out
+/* Runs main as station_run does, without checking the text first: for trying out
  * a text that station_check may refuse. Returns 0, 1 to 9 or 21 to 27 with the
  * line; the results area as after station_run, all zero for the numbers 2 to 9. A
- * text that station_check accepts gets the same from both. */
+ * text that station_check accepts gets the same answer from both. */
 uint32_t station_trial(const uint8_t *text, size_t text_len,
                        uint8_t *work, size_t work_len,
                        uint32_t steps,
@@ -124,73 +124,73 @@ uint32_t station_trial(const uint8_t *text, size_t text_len,
  * text, number of steps and area. It checks first, as station_run does; then it
  * keeps no permissions and evaluates no assert, requires, ensures, join or
  * invariant, since a text that station_check accepts never fails one (proved). So
- * a step costs less: for long runs over many objects. station_run tests every
- * permission all the same, and so may stop at a fault that no proof covers, such
- * as another thread that writes to an area during the call. */
+ * a step costs less: use it for long runs over many objects. station_run tests every
+ * permission all the same, so it may stop at a fault that no proof covers, such as
+ * another thread that writes to an area during the call. */
 uint32_t station_lean(const uint8_t *text, size_t text_len,
                       uint8_t *work, size_t work_len,
                       uint32_t steps,
                       uint8_t *results, size_t results_len);
 
-/* The most that a run of main can take, known before it. The bounds area then
+/* The most that a run of main can take, known before the run. The bounds area then
  * holds the steps and the frames (both unsigned), 4 bytes each, low byte first.
  *
  *   returned          when                                   bounds area
  *   0                 there is a bound                       steps, frames
  *   1                 an area of wrong length                unchanged
- *   2 to 14, line     station_check refuses the text so      all zero
+ *   2 to 14, line     station_check refuses with these       all zero
  *   15, line          the first line that is a `loop`, or    all zero
  *                     a `call` whose method is the one that
  *                     the line is in, or can reach it
  *   16                the steps are above STATION_BOUND      all zero
  *
- * No run takes more steps, or has more frames at a time; station_run with so many
- * steps allowed never returns 21. Frames are counted by the lines of the text and
- * can be STATION_FRAMES + 1: a run that would open so many stops with 23. A text
+ * No run takes more steps, or has more frames at a time; station_run with that many
+ * steps allowed never returns 21. Frames are counted from the lines of the text and
+ * can be STATION_FRAMES + 1: a run that would open that many stops with 23. A text
  * with 15 or 16 is accepted all the same. */
 uint32_t station_bound(const uint8_t *text, size_t text_len,
                        uint8_t *work, size_t work_len,
                        uint8_t *bounds, size_t bounds_len);
 
 /* The permissions that a `requires` line lacks. One method of the text has
- * `requires *`, and all else is complete. The places area then holds the first set
- * of at most STATION_FILLED permissions `acc x f` with which station_check accepts
- * the text, its length apart: places from 1, rising, a byte each, then zeros. The
- * places are the fields of the method's class in the order of their lines, x being
- * `this`, then those of the parameter's class, if it has one, x being the
- * parameter. Of two sets the one with fewer permissions comes first, then the one
- * with the earlier place where they first differ; a set may be empty.
+ * `requires *`, and everything else is complete. The places area then holds the first
+ * set of at most STATION_FILLED permissions `acc x f` with which station_check accepts
+ * the text, apart from its length: places from 1, rising, a byte each, then zeros. The
+ * places are the fields of the method's class in the order of their lines, with `this`
+ * for x, then those of the parameter's class, if it has one, with the parameter for x.
+ * Of two sets the one with fewer permissions comes first, then the one with the
+ * earlier place where they first differ; a set may be empty.
  *
  *   returned          when                                   places area
  *   0                 there is such a set                    its places
  *   1                 an area of wrong length                unchanged
- *   2 to 9, line      the text is refused so with a bare     all zero
- *                     `requires` in place of the star
- *   18, line          the second line `requires *`; 0 where  all zero
+ *   2 to 9, line      the text with a bare `requires` in     all zero
+ *                     place of the star is refused
+ *   18, line          the second line `requires *`; 0 if     all zero
  *                     there is none
- *   17, line          with no such set the text is accepted; all zero
+ *   17, line          no such set makes the text accepted;   all zero
  *                     the line of the star
  *
- * To every other function `requires *` is number 4. */
+ * For every other function `requires *` is number 4. */
 uint32_t station_fill(const uint8_t *text, size_t text_len,
                       uint8_t *work, size_t work_len,
                       uint8_t *places, size_t places_len);
 
 /* Runs up to four scripts over one heap of STATION_OBJECTS objects, one step of each
- * a round, in order, for at most so many rounds. Each has a share of so many
- * objects and STATION_FIELDS_EACH times as many fields, and numbers of its own for
- * them. A script that is refused, finished or stopped is passed over; no step
- * changes a field in another's share.
+ * per round, in order, for at most `rounds` rounds. Each has a share of some number
+ * of objects and STATION_FIELDS_EACH times as many fields, and numbers its own
+ * objects. A script that is refused, finished or stopped is skipped; no step changes
+ * a field in another's share.
  *
  *   returned   when                                           results area
- *   0          else                                           each script's answer
+ *   0          otherwise                                      each script's answer
  *   1          an area of wrong length                        unchanged
  *   19         there are no scripts, or more than             all zero
  *              STATION_SCRIPTS; a share is 0; or the shares
- *              are above STATION_OBJECTS together
+ *              together are above STATION_OBJECTS
  *
  * Each script's answer is STATION_SCRIPT_BYTES bytes: what station_run returns for
- * it alone, with its share for the heap and the rounds as steps (4 bytes, low byte
+ * it alone, with its share as the heap and the rounds as steps (4 bytes, low byte
  * first), then what station_run leaves in its results area. It is the same whatever
  * the other scripts do. Texts and shares past the count of scripts are not looked
  * at, and their bytes are zero. */

@@ -14,10 +14,10 @@ wheel: library explain
 check-python: library explain
 	cd python && NUYARDI_LIBRARY="$(abspath $(SHARED))" $(PYTHON) -B -m unittest -v
 
-# R CMD check of the package for R, over the library as it is installed; it takes jsonlite if it is there.
+# R CMD check of the package for R, over the library as it is installed; it uses jsonlite if that is installed.
 RSTAGE = $(abspath target/r)
 check-r: library explain
-	command -v R >/dev/null || { echo "there is no R here" >&2; exit 1; }
+	command -v R >/dev/null || { echo "R is not installed" >&2; exit 1; }
 	rm -rf $(RSTAGE) && mkdir -p $(RSTAGE)
 	$(MAKE) --no-print-directory -s install-shared install-dev PREFIX=$(RSTAGE)/prefix DESTDIR=
 	cd $(RSTAGE) && export NUYARDI_EXPLAIN_LIBRARY="$(abspath $(wildcard $(EXPLAIN)))" PKG_CONFIG_PATH=$(RSTAGE)/prefix/lib/pkgconfig _R_CHECK_FORCE_SUGGESTS_=false R_RD4PDF=times,hyper \

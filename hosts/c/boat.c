@@ -1,6 +1,6 @@
 /* Runs a script over a large catalogue, on the lean machine: the script is checked
- * first, as by station_run, and the answer is the same. The steps allowed are those
- * that the script can take, where it has a bound; else they are given.
+ * first, as station_run does, and the answer is the same. If the script has a bound,
+ * that many steps are allowed; otherwise the caller gives the number of steps.
  *
  *   cc -o boat boat.c $(pkg-config --cflags --libs nuyardi-static)
  *   ./boat FILE [STEPS]
@@ -9,7 +9,7 @@
 
 #include <stdio.h>
 
-/* A byte more than the longest text, so that a longer one is seen and refused. */
+/* One byte more than the longest text, so that a longer one is detected and refused. */
 static uint8_t text[STATION_TEXT_BYTES + 1];
 static uint8_t work[STATION_WORK_BYTES];
 static uint8_t results[STATION_RESULTS_BYTES];
@@ -21,7 +21,7 @@ static uint32_t word(const uint8_t *area, int at)
     return b[0] | (uint32_t)b[1] << 8 | (uint32_t)b[2] << 16 | (uint32_t)b[3] << 24;
 }
 
-/* The steps of a word of digits, at most 32 bits; 0 if it is none. */
+/* The steps of a word of digits, at most 32 bits; 0 if it is not one. */
 static int given(const char *digits, uint32_t *steps)
 {
     uint64_t read = 0;

@@ -1,4 +1,4 @@
-/* Prints what is to be said of a script, as JSON: accepted, or refused with cause,
+/* Prints what there is to say about a script, as JSON: accepted, or refused with cause,
  * notes and fix. It needs the library of explanations.
  *
  *   cc -o explain explain.c $(pkg-config --cflags --libs nuyardi-explain)
@@ -9,7 +9,7 @@
 #include <stdio.h>
 #include <stdlib.h>
 
-/* More than the longest text, so that a longer one is seen and refused. */
+/* More than the longest text, so that a longer one is detected and refused. */
 static uint8_t text[65536];
 
 int main(int count, char **words)

@@ -4,13 +4,13 @@
  *   cc -o license license.c $(pkg-config --cflags --libs nuyardi-static)
  *   ./license FILE
  *
- * With `nuyardi` in place of `nuyardi-static` it takes the shared library.
+ * With `nuyardi` in place of `nuyardi-static` it uses the shared library.
  */
 #include <station.h>
 
 #include <stdio.h>
 
-/* A byte more than the longest text, so that a longer one is seen and refused. */
+/* One byte more than the longest text, so that a longer one is detected and refused. */
 static uint8_t text[STATION_TEXT_BYTES + 1];
 static uint8_t work[STATION_WORK_BYTES];
 static uint8_t results[STATION_RESULTS_BYTES];

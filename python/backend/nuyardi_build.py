@@ -1,8 +1,8 @@
-"""Builds the package for pip (PEP 517), with the standard library alone.
+"""Builds the package for pip (PEP 517), using only the standard library.
 
-A wheel has the shared libraries inside if they are there: libnuyardi.so, as `make` makes it, or where the environment variable
-NUYARDI_LIBRARY says; libnuyardi_explain.so likewise, by NUYARDI_EXPLAIN_LIBRARY. Without libnuyardi.so the wheel is Python alone, and
-the library is looked for on the machine. The same files give the same wheel, byte for byte.
+A wheel contains the shared libraries if they exist: libnuyardi.so, as `make` builds it, or where the environment variable
+NUYARDI_LIBRARY says; libnuyardi_explain.so in the same way, with NUYARDI_EXPLAIN_LIBRARY. Without libnuyardi.so the wheel is only
+Python, and the library is looked for on the machine. The same files give the same wheel, byte for byte.
 """
 
 import base64
@@ -27,7 +27,7 @@ EARLIEST = (1980, 1, 1, 0, 0, 0)
 
 
 def version() -> str:
-    """That of the file VERSION; in a source archive, that of its PKG-INFO."""
+    """The version in the file VERSION; in a source archive, the one in its PKG-INFO."""
     information = HERE / "PKG-INFO"
     if information.is_file():
         found = re.search(r"^Version: (.+)$", information.read_text(encoding="utf-8"), re.MULTILINE)

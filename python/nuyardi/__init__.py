@@ -1,4 +1,4 @@
-"""Check and run catalogue scripts by the proved library.
+"""Check and run catalogue scripts with the proved library.
 
     >>> import nuyardi
     >>> text = b"main\\nvar\\tint\\ta\\nlet\\ta\\t7\\nend\\n"
@@ -10,10 +10,10 @@
     2
 
 `check`, `run`, `trial`, `lean`, `bound`, `fill` and `count` answer with what the library returns: a refusal is an answer. Only misuse is an exception:
-a text that is not bytes (TypeError), steps out of range (ValueError), a library that is not there (LibraryNotFound).
+a text that is not bytes (TypeError), steps out of range (ValueError), a missing library (LibraryNotFound).
 
 `explain`, `trace`, `cards` and `draw` need a second library, libnuyardi_explain.so, and raise LibraryNotFound without it. The functions of
-`nuyardi.calls` work over areas of the caller's own.
+`nuyardi.calls` work over the caller's own areas.
 """
 
 from ._explain import Drawing, cards, draw, explain, explain_run, trace

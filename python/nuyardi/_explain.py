@@ -1,4 +1,4 @@
-"""explain, trace, cards and draw: over a second library, libnuyardi_explain.so, which is not proved."""
+"""explain, trace, cards and draw, over a second library, libnuyardi_explain.so, which is not proved."""
 
 import ctypes
 import json
@@ -10,12 +10,12 @@ from . import _library
 from .calls import steps_in_range
 from .scripts import script_bytes
 
-#: The room of a first call; where it is too small, the second has as much as the first asked for.
+#: The room of a first call; if it is too small, the second call has as much as the first asked for.
 FIRST_ROOM = 65536
 
 
 def written(call: Callable[..., int], *words: Any) -> bytes:
-    """What a function writes that takes room and its size last, and returns the length that it needs."""
+    """The output of a function that takes room and its size last, and returns the length that it needs."""
     size = FIRST_ROOM
     while True:
         room = ctypes.create_string_buffer(size)
@@ -29,19 +29,19 @@ def _answer(function: str, *words: Any) -> bytes:
     """What a function of the library writes; every answer has some bytes."""
     said = written(getattr(_library.explaining(), function), *words)
     if not said:
-        raise _library.LibraryError(f"{function} gave no answer: a fault inside the library")
+        raise _library.LibraryError(f"{function} gave no answer: an internal fault of the library")
     return said
 
 
 def explain(text: bytes) -> Dict[str, Any]:
-    """Check's answer, with cause, notes and fix where it refuses the text, and the warnings: the object that `station check --warn --json -` prints."""
+    """Check's answer, with cause, notes and fix if it refuses the text, and the warnings: the object that `station check --warn --json -` prints."""
     said = script_bytes(text)
     answer: Dict[str, Any] = json.loads(_answer("nuyardi_explain", said, len(said)))
     return answer
 
 
 def explain_run(text: bytes, steps: int) -> Dict[str, Any]:
-    """How a run of at most so many steps ends, with cause, notes and fix where it stops, as `station run --json -` prints it."""
+    """How a run of at most `steps` steps ends, with cause, notes and fix if it stops, as `station run --json -` prints it."""
     said, allowed = script_bytes(text), steps_in_range(steps)
     answer: Dict[str, Any] = json.loads(_answer("nuyardi_explain_run", said, len(said), allowed))
     return answer
@@ -49,7 +49,7 @@ def explain_run(text: bytes, steps: int) -> Dict[str, Any]:
 
 def cards(text: bytes, steps: int) -> List[Dict[str, Any]]:
     """The cards that such a run made, each a dict with `object`, `class` and `fields`: a field's `name`, `value` (None is null), whether
-    it is a `link` and goes round a `ring`, and who holds it. There are none of a refused text, nor after more than 20,000,000 steps:
+    it is a `link` and the links by it form a `ring`, and who holds it. There are none for a refused text, nor after more than 20,000,000 steps:
     ValueError."""
     said, allowed = script_bytes(text), steps_in_range(steps)
     answer: Dict[str, Any] = json.loads(_answer("nuyardi_cards", said, len(said), allowed))
@@ -60,7 +60,7 @@ def cards(text: bytes, steps: int) -> List[Dict[str, Any]]:
 
 
 def trace(text: bytes, steps: int) -> Iterator[Dict[str, Any]]:
-    """Each step of such a run, at most 100,000, as a dict: a data frame is made of these as they are. A refused text has none."""
+    """Each step of such a run, at most 100,000, as a dict: they make a data frame without conversion. A refused text has none."""
     said, allowed = script_bytes(text), steps_in_range(steps)
     lines = _answer("nuyardi_trace", said, len(said), allowed).splitlines()
     # The last line is what explain_run gives.
@@ -82,7 +82,7 @@ class Drawing:
 
 
 def draw(text: bytes, steps: int) -> Drawing:
-    """The cards as such a run leaves them. There is no picture of a refused text, nor after more than 20,000,000 steps: ValueError."""
+    """The cards as such a run leaves them. There is no picture for a refused text, nor after more than 20,000,000 steps: ValueError."""
     said, allowed = script_bytes(text), steps_in_range(steps)
     svg = written(_library.explaining().nuyardi_draw, said, len(said), allowed)
     if not svg:

@@ -1,7 +1,7 @@
 """Finds and loads the shared libraries.
 
-Each is looked for where its environment variable says, then beside this file, where a wheel has it, then by its name as the
-system's loader does. ctypes gives the interpreter's lock back during a call of a library that is loaded so.
+Each is looked for where its environment variable says, then next to this file, where a wheel has it, then by name with the
+system's loader. ctypes releases the interpreter's lock during a call of a library that is loaded this way.
 """
 
 import ctypes
@@ -16,11 +16,11 @@ class LibraryError(OSError):
 
 
 class LibraryNotFound(LibraryError):
-    """A shared library is not there, or can not be loaded."""
+    """A shared library is missing, or cannot be loaded."""
 
 
 class LibraryMismatch(LibraryError):
-    """A shared library is of another version than this package."""
+    """A shared library has another version than this package."""
 
 
 #: The soname of the library that this package is for.
@@ -45,7 +45,7 @@ def _loaded(name: str, soname: str, variable: str, functions: Dict[str, List[Any
     try:
         library = ctypes.CDLL(place)
     except OSError as error:
-        raise LibraryNotFound(f"{name} can not be loaded ({error}); the environment variable {variable} names another") from error
+        raise LibraryNotFound(f"{name} cannot be loaded ({error}); the environment variable {variable} can name another") from error
     for function, arguments in functions.items():
         try:
             declared = getattr(library, function)
@@ -57,7 +57,7 @@ def _loaded(name: str, soname: str, variable: str, functions: Dict[str, List[Any
 
 
 def _once(load: Callable[[], ctypes.CDLL]) -> Callable[[], ctypes.CDLL]:
-    """The same function, which loads at its first call alone; a failure is tried again at the next."""
+    """The same function, but it loads only at its first call; after a failure the next call tries again."""
     lock = threading.Lock()
     found: List[ctypes.CDLL] = []
 

@@ -1,4 +1,4 @@
-"""The version, in a checkout that of the file VERSION; a wheel has it in place of this file."""
+"""The version: in a checkout, the one in the file VERSION; in a wheel, this file is replaced by one that contains it."""
 
 from pathlib import Path
 

@@ -41,7 +41,7 @@ class _Answer:
 
 @dataclass(frozen=True)
 class Checked(_Answer):
-    """What check says: number 0, or 2 to 14 with the line, which is 0 where the whole text is refused."""
+    """What check says: number 0, or 2 to 14 with the line, which is 0 if the whole text is refused."""
 
     @property
     def accepted(self) -> bool:
@@ -67,7 +67,7 @@ class Ran(_Answer):
         return self.number.refuses
 
     def variable(self, name: str) -> Variable:
-        """Main's variable of a name."""
+        """Main's variable with this name."""
         for variable in self.variables:
             if variable.name == name:
                 return variable
@@ -76,7 +76,7 @@ class Ran(_Answer):
 
 @dataclass(frozen=True)
 class Bounded(_Answer):
-    """The most that a run can take; None where there is no bound, and then the number says why."""
+    """The most that a run can take; None if there is no bound, and then the number says why."""
 
     steps: Optional[int]
     frames: Optional[int]
@@ -90,7 +90,7 @@ class Bounded(_Answer):
 class Filled(_Answer):
     """What a line `requires *` stands for: the places of the permissions, the line that takes its place, and the text with it.
 
-    Line and text are None where there is no set, and then the number says why.
+    Line and text are None if there is no set, and then the number says why.
     """
 
     places: Tuple[int, ...]
@@ -104,7 +104,7 @@ class Filled(_Answer):
 
 @dataclass(frozen=True)
 class Counted(_Answer):
-    """How the scripts of a count ended, in order; none where the shares do not fit."""
+    """How the scripts of a count ended, in order; none if the shares do not fit."""
 
     scripts: Tuple[Ran, ...]
 
@@ -114,16 +114,16 @@ class Counted(_Answer):
         return self.number == Number.DONE and all(script.finished for script in self.scripts)
 
 
-def _parted(returned: int) -> Tuple[Number, int]:
+def _number_and_line(returned: int) -> Tuple[Number, int]:
     number, line = divmod(returned, 65536)
     try:
         return Number(number), line
     except ValueError:
-        raise LibraryMismatch(f"number {number}: the library is not of this package's version") from None
+        raise LibraryMismatch(f"number {number}: the library and this package have different versions") from None
 
 
 def _declared(text: bytes) -> Iterator[Tuple[str, str]]:
-    """The types and names of main's `var` lines, of a text that was run."""
+    """The types and names of main's `var` lines, for a text that was run."""
     main = re.search(rb"^main\n((?:var\t[^\n]*\n)*)", text, re.MULTILINE)
     for line in main.group(1).decode("ascii").splitlines() if main else ():
         _, kind, name = line.split("\t")
@@ -138,12 +138,12 @@ def _held(kind: str, value: int) -> Value:
 
 def checked(returned: int) -> Checked:
     """What check returned."""
-    return Checked(*_parted(returned))
+    return Checked(*_number_and_line(returned))
 
 
 def ran(returned: int, text: bytes, results: bytes) -> Ran:
     """What run, trial or lean returned for a text, and left in the results area."""
-    number, line = _parted(returned)
+    number, line = _number_and_line(returned)
     steps, *values = struct.unpack(f"<I{VALUES}i", results)
     declared = () if number.refuses else _declared(text)
     variables = tuple(Variable(name, kind, _held(kind, value)) for (kind, name), value in zip(declared, values))
@@ -155,7 +155,7 @@ _STAR = "requires\t*"
 
 
 def _permissions(lines: List[str], variable: str, kind: str) -> Iterator[str]:
-    """A permission to each field of a class, which follow its line; none for an int."""
+    """A permission to each field of a class (the `field` lines follow its line); none for an int."""
     if kind != "int":
         for line in lines[lines.index(f"class\t{kind}") + 1 :]:
             if not line.startswith("field\t"):
@@ -176,21 +176,21 @@ def _filled_in(text: bytes, places: Tuple[int, ...]) -> Tuple[str, bytes]:
 
 def filled(returned: int, text: bytes, places: bytes) -> Filled:
     """What fill returned for a text, and left in the places area."""
-    number, line = _parted(returned)
+    number, line = _number_and_line(returned)
     given = tuple(place for place in places if place)
     return Filled(number, line, given, *(_filled_in(text, given) if number == Number.DONE else (None, None)))
 
 
 def bounded(returned: int, bounds: bytes) -> Bounded:
     """What bound returned, and left in the bounds area."""
-    number, line = _parted(returned)
+    number, line = _number_and_line(returned)
     steps, frames = struct.unpack("<II", bounds)
     return Bounded(number, line, steps, frames) if number == Number.DONE else Bounded(number, line, None, None)
 
 
 def counted(returned: int, texts: Sequence[bytes], results: bytes) -> Counted:
     """What count returned for some texts, and left in the results area."""
-    number, line = _parted(returned)
+    number, line = _number_and_line(returned)
     parts = zip(texts, (results[at : at + SCRIPT_BYTES] for at in range(0, len(results), SCRIPT_BYTES)))
     scripts = (ran(*struct.unpack("<I", part[:4]), text, part[4:]) for text, part in parts)
     return Counted(number, line, tuple(scripts) if number == Number.DONE else ())

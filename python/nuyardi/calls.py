@@ -1,8 +1,8 @@
-"""The calls over areas of the caller's own, with what they return as it comes: number * 65536 + line.
+"""The calls over the caller's own areas. They return the raw number * 65536 + line.
 
-What C can not check is checked here before the call: an area is a writable buffer of the right length (a bytearray, a writable
+What C cannot check is checked here before the call: an area is a writable buffer of the right length (a bytearray, a writable
 memoryview of bytes), and overlaps neither another area nor the text. There are no null pointers: a buffer always has an address. The
-buffers can not be resized or freed during the call. That no other thread writes to them during it is left to the caller.
+buffers cannot be resized or freed during the call. The caller must ensure that no other thread writes to them during the call.
 
 Most callers want nuyardi.check, nuyardi.run, nuyardi.trial, nuyardi.lean, nuyardi.bound, nuyardi.fill and nuyardi.count, which need no
 areas.
@@ -21,7 +21,7 @@ Text = Union[bytes, Area]
 
 
 class _Lent:
-    """A buffer as the call is lent it: its name in messages, its address and its length. It keeps the buffer from moving."""
+    """A buffer lent to a call: its name in messages, its address and its length. It keeps the buffer from moving."""
 
     def __init__(self, name: str, length: int, address: int, owner: object) -> None:
         self.name, self.length, self.address, self._owner = name, length, address, owner
@@ -36,9 +36,9 @@ def _buffer(name: str, buffer: Any) -> _Lent:
     try:
         view = memoryview(buffer)
     except TypeError:
-        raise TypeError(f"{name} is no buffer of bytes: {type(buffer).__name__}") from None
+        raise TypeError(f"{name} is not a buffer of bytes: {type(buffer).__name__}") from None
     if view.readonly or not view.c_contiguous or view.itemsize != 1:
-        raise TypeError(f"{name} is no writable buffer of bytes, one after the other")
+        raise TypeError(f"{name} is not a writable, contiguous buffer of bytes")
     kept = (ctypes.c_ubyte * view.nbytes).from_buffer(buffer)
     return _Lent(name, view.nbytes, ctypes.addressof(kept), kept)
 
@@ -48,7 +48,7 @@ def _text(text: Any) -> _Lent:
         address = ctypes.cast(ctypes.c_char_p(text), ctypes.c_void_p).value
         return _Lent("text", len(text), address or 0, text)
     if isinstance(text, str):
-        raise TypeError('text is a str, not bytes: give text.encode("ascii")')
+        raise TypeError('text is a str, not bytes: pass text.encode("ascii")')
     return _buffer("text", text)
 
 
@@ -62,7 +62,7 @@ def _area(name: str, area: Any, length: int) -> _Lent:
 def word_in_range(name: str, value: Any) -> int:
     """The value, if it is a number from 0 to 4294967295."""
     if isinstance(value, bool) or not isinstance(value, int):
-        raise TypeError(f"{name} is no int: {type(value).__name__}")
+        raise TypeError(f"{name} is not an int: {type(value).__name__}")
     if not 0 <= value <= MOST_STEPS:
         raise ValueError(f"{name} is {value}, and must be from 0 to {MOST_STEPS}")
     return value
@@ -106,12 +106,12 @@ def run(text: Text, work: Area, steps: int, results: Area) -> int:
 
 
 def trial(text: Text, work: Area, steps: int, results: Area) -> int:
-    """station_trial: as run, of a text that check may refuse."""
+    """station_trial: like run, for a text that check may refuse."""
     return _ran("station_trial", text, work, steps, results)
 
 
 def lean(text: Text, work: Area, steps: int, results: Area) -> int:
-    """station_lean: what run returns and leaves, always, from a machine that tests no permission."""
+    """station_lean: always what run returns and leaves, from a machine that tests no permission."""
     return _ran("station_lean", text, work, steps, results)
 
 
@@ -139,7 +139,7 @@ def _four(name: str, values: Sequence[Any]) -> Sequence[Any]:
 
 
 def count(scripts: int, rounds: int, texts: Sequence[Text], work: Area, shares: Sequence[int], results: Area) -> int:
-    """station_count, with four texts and four shares, of which the first so many are looked at. Afterwards work is all zero, and
+    """station_count, with four texts and four shares, of which only the first `scripts` are used. Afterwards work is all zero, and
     results has 56 bytes for each script: what run returned, then its results."""
     said, room = [_text(text) for text in _four("texts", texts)], _area("work", work, WORK_BYTES)
     left = _area("results", results, COUNT_BYTES)

@@ -19,7 +19,7 @@ MOST_STEPS = 2**32 - 1
 
 
 class Number(enum.IntEnum):
-    """What a call says of a text."""
+    """What a call says about a text."""
 
     DONE = 0
     AREA_LENGTH = 1

@@ -1,4 +1,4 @@
-"""check, run, trial, lean, bound, fill and count, each with areas of its own: calls may run in any number of threads."""
+"""check, run, trial, lean, bound, fill and count. Each call has its own areas, so calls may run in any number of threads."""
 
 from typing import Any, Optional, Sequence
 
@@ -8,11 +8,11 @@ from .numbers import BOUNDS_BYTES, COUNT_BYTES, OBJECTS, PLACES_BYTES, RESULTS_B
 
 
 def script_bytes(text: Any) -> bytes:
-    """The text, if it is bytes: these nobody changes during a call."""
+    """The text, if it is bytes: nobody can change bytes during a call."""
     if isinstance(text, bytes):
         return text
-    mend = 'text.encode("ascii")' if isinstance(text, str) else "bytes(text)"
-    raise TypeError(f"text is not bytes but {type(text).__name__}: give {mend}")
+    fix = 'text.encode("ascii")' if isinstance(text, str) else "bytes(text)"
+    raise TypeError(f"text is not bytes but {type(text).__name__}: pass {fix}")
 
 
 def check(text: bytes) -> Checked:
@@ -21,9 +21,9 @@ def check(text: bytes) -> Checked:
 
 
 def run(text: bytes, steps: int) -> Ran:
-    """Checks the text, and if it is accepted runs it for at most so many steps.
+    """Checks the text, and if it is accepted runs it for at most `steps` steps.
 
-    The number is 2 to 14 where check refuses the text, and else 0, 21, 22, 23 or 27: never 24, 25 or 26, by a theorem.
+    The number is 2 to 14 if check refuses the text, and otherwise 0, 21, 22, 23 or 27: never 24, 25 or 26, by a theorem.
     """
     results = bytearray(RESULTS_BYTES)
     returned = calls.run(script_bytes(text), bytearray(WORK_BYTES), steps, results)
@@ -31,14 +31,14 @@ def run(text: bytes, steps: int) -> Ran:
 
 
 def trial(text: bytes, steps: int) -> Ran:
-    """Runs the text as run does, without checking it before; the machine tests every permission."""
+    """Runs the text as run does, without checking it first; the machine tests every permission."""
     results = bytearray(RESULTS_BYTES)
     returned = calls.trial(script_bytes(text), bytearray(WORK_BYTES), steps, results)
     return answers.ran(returned, text, results)
 
 
 def lean(text: bytes, steps: int) -> Ran:
-    """What run answers, always, from a machine that keeps no permissions: sooner in a long run over many objects.
+    """Always the answer of run, from a machine that keeps no permissions: faster in a long run over many objects.
 
     It checks the text first, as run does. An accepted text never lacks a permission, by a theorem, so none is tested.
     """
@@ -48,31 +48,31 @@ def lean(text: bytes, steps: int) -> Ran:
 
 
 def bound(text: bytes) -> Bounded:
-    """The most steps and frames that a run of the text can take, known before it."""
+    """The most steps and frames that a run of the text can take, known before the run."""
     bounds = bytearray(BOUNDS_BYTES)
     returned = calls.bound(script_bytes(text), bytearray(WORK_BYTES), bounds)
     return answers.bounded(returned, bounds)
 
 
 def fill(text: bytes) -> Filled:
-    """The first set of at most 4 permissions with which a line `requires *` makes the text accepted, its length apart."""
+    """The first set of at most 4 permissions that, in place of the star of `requires *`, makes the text accepted, apart from its length."""
     places = bytearray(PLACES_BYTES)
     returned = calls.fill(script_bytes(text), bytearray(WORK_BYTES), places)
     return answers.filled(returned, text, places)
 
 
 def count(texts: Sequence[bytes], rounds: int, shares: Optional[Sequence[int]] = None) -> Counted:
-    """Runs 1 to 4 texts over one heap, one step of each a round, each with a share of so many objects.
+    """Runs 1 to 4 texts over one heap, one step of each per round, each with its share of the objects.
 
-    Without shares they are equal parts of 256. What becomes of a text is what run answers of it alone, with its share for the heap
-    and the rounds as steps, by a theorem.
+    Without `shares` they are equal parts of 256. By a theorem, the answer for a text is that of run for it alone, with its share as
+    the heap and the rounds as steps.
     """
     if isinstance(texts, (bytes, bytearray, str)):
-        raise TypeError("texts is one text: give a list of them")
+        raise TypeError("texts is one text: pass a list of texts")
     given = [script_bytes(text) for text in texts]
     parts = [OBJECTS // max(len(given), 1)] * len(given) if shares is None else list(shares)
     if len(parts) != len(given):
-        raise ValueError(f"{len(given)} texts, and {len(parts)} shares")
+        raise ValueError(f"{len(given)} texts, but {len(parts)} shares")
     missing = SCRIPTS - len(given)
     results = bytearray(COUNT_BYTES)
     four, fours = (given + missing * [b""])[:SCRIPTS], (parts + missing * [0])[:SCRIPTS]

@@ -1,4 +1,4 @@
-"""The calls over areas of the caller's own: what they leave there, and the areas that they refuse."""
+"""The calls over the caller's own areas: what they leave there, and the areas that they refuse."""
 
 import ctypes
 import struct
@@ -22,7 +22,7 @@ class Areas(unittest.TestCase):
         self.places = filled(PLACES_BYTES)
 
     def every_call(self, text=WORKED, work=None, results=None, bounds=None, places=None):
-        """Each call, with these in place of its usual words."""
+        """Each call, with these in place of its usual arguments."""
         work = self.work if work is None else work
         results = self.results if results is None else results
         bounds = self.bounds if bounds is None else bounds
@@ -78,15 +78,15 @@ class Areas(unittest.TestCase):
         self.refused(ValueError, "places has 3 bytes, and must have 4", slice(5, 6), places=filled(3))
 
     def test_no_buffer(self):
-        """Null pointers among them."""
+        """Including null pointers."""
         for nothing in [None, 0, 5, "text", object()]:
             self.refused(TypeError, "text is", text=nothing if nothing is not None else 0)
         for call in [lambda: calls.check(None, self.work), lambda: calls.check(WORKED, None)]:
             with self.assertRaises(TypeError):
                 call()
-        self.refused(TypeError, "work is no writable buffer", work=bytes(WORK_BYTES))
-        self.refused(TypeError, "work is no writable buffer", work=memoryview(filled(2 * WORK_BYTES))[::2])
-        self.refused(TypeError, "results is no writable buffer", slice(1, 4), results=bytes(RESULTS_BYTES))
+        self.refused(TypeError, "work is not a writable, contiguous buffer", work=bytes(WORK_BYTES))
+        self.refused(TypeError, "work is not a writable, contiguous buffer", work=memoryview(filled(2 * WORK_BYTES))[::2])
+        self.refused(TypeError, "results is not a writable, contiguous buffer", slice(1, 4), results=bytes(RESULTS_BYTES))
 
     def test_overlapping_areas(self):
         shared = memoryview(filled(WORK_BYTES + TEXT_BYTES))
@@ -139,9 +139,9 @@ class Areas(unittest.TestCase):
             (ValueError, "shares has 5 entries, and must have 4", {"shares": 5 * (1,)}),
             (TypeError, "text is a str", {"texts": 4 * ("main",)}),
             (ValueError, "a share is -1", {"shares": (1, 1, 1, -1)}),
-            (TypeError, "a share is no int", {"shares": (1, 1, 1, None)}),
+            (TypeError, "a share is not an int", {"shares": (1, 1, 1, None)}),
             (ValueError, "rounds is 4294967296", {"rounds": 2**32}),
-            (TypeError, "scripts is no int", {"scripts": 1.0}),
+            (TypeError, "scripts is not an int", {"scripts": 1.0}),
             (ValueError, "work and results overlap", {"work": shared[:WORK_BYTES], "results": shared[WORK_BYTES - 1 : -1]}),
             (ValueError, "text and work overlap", {"texts": (WORKED, WORKED, WORKED, self.work)}),
         ]:

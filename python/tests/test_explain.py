@@ -1,4 +1,4 @@
-"""explain, trace and draw: how they take what the library writes, and, where the library is there, what it says."""
+"""explain, trace and draw: how they take what the library writes, and, if the library is available, what it says."""
 
 import ctypes
 import tempfile
@@ -23,7 +23,7 @@ def has_library() -> bool:
 
 
 class Room(unittest.TestCase):
-    """The length that is needed is asked for by a call that has no room for it."""
+    """A call without enough room returns the length that is needed."""
 
     def written(self, content: bytes):
         rooms = []
@@ -49,7 +49,7 @@ class Room(unittest.TestCase):
 
 class Misuse(unittest.TestCase):
     def test_words(self):
-        """These are refused before any library is asked for."""
+        """These are refused before any library is loaded."""
         for call in [nuyardi.explain_run, nuyardi.trace, nuyardi.cards, nuyardi.draw]:
             with self.assertRaises(ValueError):
                 call(WORKED, -1)

@@ -1,4 +1,4 @@
-"""Libraries that are not there, or are others."""
+"""Missing and wrong libraries."""
 
 import os
 import subprocess
@@ -17,7 +17,7 @@ CALL = "import nuyardi\ntry:\n    nuyardi.{call}\nexcept nuyardi.{error} as erro
 
 
 def said(call: str, error: str, **places: str) -> str:
-    """What a new interpreter says of a call, with these environment variables."""
+    """What a new interpreter says about a call, with these environment variables."""
     words = [sys.executable, "-c", CALL.format(call=call, error=error)]
     environment = {**os.environ, "PYTHONPATH": str(PYTHON), **places}
     done = subprocess.run(words, env=environment, cwd="/", stdout=subprocess.PIPE, stderr=subprocess.STDOUT)
@@ -28,7 +28,7 @@ class Library(unittest.TestCase):
     def test_not_there(self):
         nowhere = "/nowhere/libnuyardi.so"
         found = said("check(b'')", "LibraryNotFound", NUYARDI_LIBRARY=nowhere)
-        self.assertIn("libnuyardi.so can not be loaded", found)
+        self.assertIn("libnuyardi.so cannot be loaded", found)
         self.assertIn("NUYARDI_LIBRARY", found)
         self.assertIn(nowhere, found)
 
@@ -36,7 +36,7 @@ class Library(unittest.TestCase):
         nowhere = "/nowhere/libnuyardi_explain.so"
         for call in ["explain(b'')", "explain_run(b'', 1)", "trace(b'', 1)", "cards(b'', 1)", "draw(b'', 1)"]:
             found = said(call, "LibraryNotFound", NUYARDI_EXPLAIN_LIBRARY=nowhere)
-            self.assertIn("libnuyardi_explain.so can not be loaded", found, call)
+            self.assertIn("libnuyardi_explain.so cannot be loaded", found, call)
 
     def test_the_calls_need_no_explaining(self):
         found = said("check(b'')", "LibraryNotFound", NUYARDI_EXPLAIN_LIBRARY="/nowhere")
@@ -46,10 +46,10 @@ class Library(unittest.TestCase):
         with tempfile.TemporaryDirectory() as folder:
             empty = Path(folder) / "empty.so"
             empty.write_bytes(b"no library")
-            self.assertIn("can not be loaded", said("check(b'')", "LibraryNotFound", NUYARDI_LIBRARY=str(empty)))
+            self.assertIn("cannot be loaded", said("check(b'')", "LibraryNotFound", NUYARDI_LIBRARY=str(empty)))
 
     def test_found_by_the_loader(self):
-        """As where the library is installed."""
+        """As if the library were installed."""
         with tempfile.TemporaryDirectory() as folder:
             (Path(folder) / SONAME).symlink_to(os.environ["NUYARDI_LIBRARY"])
             found = said("check(b'')", "LibraryNotFound", NUYARDI_LIBRARY="", LD_LIBRARY_PATH=folder)

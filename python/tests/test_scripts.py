@@ -128,7 +128,7 @@ class Answers(unittest.TestCase):
         for error, message, words in [
             (TypeError, "texts is one text", (WORKED, 9)),
             (TypeError, "text is not bytes", ([WORKED.decode()], 9)),
-            (ValueError, "2 texts, and 1 shares", ([WORKED, WORKED], 9, [1])),
+            (ValueError, "2 texts, but 1 shares", ([WORKED, WORKED], 9, [1])),
             (ValueError, "rounds is -1", ([WORKED], -1)),
             (ValueError, "a share is 4294967296", ([WORKED], 9, [2**32])),
         ]:
@@ -172,7 +172,7 @@ class Misuse(unittest.TestCase):
                 with self.assertRaisesRegex(ValueError, "steps is"):
                     call(WORKED, steps)
             for steps in [1.0, "1", None, True]:
-                with self.assertRaisesRegex(TypeError, "steps is no int"):
+                with self.assertRaisesRegex(TypeError, "steps is not an int"):
                     call(WORKED, steps)
             self.assertTrue(call(WORKED, 2**32 - 1).finished)
             self.assertEqual(call(WORKED, 0).number, Number.OUT_OF_STEPS)

@@ -17,7 +17,7 @@ SCRIPTS = ["worked.txt", "sum.script", "refused-12.script", "stopped-27.script",
 
 
 def steps_for(seconds: float) -> int:
-    """About so many steps of a loop as take a processor so long."""
+    """About as many steps of a loop as take a processor this long."""
     steps = 10000
     while True:
         began = time.thread_time()
@@ -29,7 +29,7 @@ def steps_for(seconds: float) -> int:
 
 
 def calls_beside(long_call) -> int:
-    """How many short calls another thread gets done in the middle half of the time that a long one takes."""
+    """How many short calls another thread completes in the middle half of the time that a long one takes."""
     begins, lasted = threading.Event(), []
 
     def lasts():

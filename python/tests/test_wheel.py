@@ -1,4 +1,4 @@
-"""The package as pip installs it, with nothing fetched."""
+"""The package as pip installs it, without downloading anything."""
 
 import os
 import subprocess
@@ -33,7 +33,7 @@ class Wheel(unittest.TestCase):
         self.version = (ROOT / "VERSION").read_text().strip()
 
     def built(self, name):
-        """The wheel by the backend, as pip calls it."""
+        """The wheel made by the backend, as pip calls it."""
         folder = self.room / name
         folder.mkdir()
         build = "import sys, nuyardi_build; print(nuyardi_build.build_wheel(sys.argv[1]))"

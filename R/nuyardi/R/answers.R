@@ -37,12 +37,12 @@ refuses <- function(number) number >= 2 && number <= 14
 # An answer: number, line, what the number means, and more.
 answer <- function(returned, more) {
   meaning <- meanings[as.character(returned[1L])]
-  if (is.na(meaning)) stop("number ", returned[1L], ": the library is not of this package's version")
+  if (is.na(meaning)) stop("number ", returned[1L], ": the library and this package have different versions")
   first <- list(number = as.integer(returned[1L]), line = as.integer(returned[2L]), meaning = unname(meaning))
   structure(c(first, more), class = "station_answer")
 }
 
-# Main's variables, of a text that was run: name, type and value. An object is its number from 1, null is NA.
+# Main's variables, for a text that was run: name, type and value. An object is its number from 1, null is NA.
 variables <- function(bytes, values) {
   lines <- strsplit(rawToChar(bytes), "\n", fixed = TRUE)[[1L]]
   main <- match("main", lines, nomatch = length(lines))
@@ -55,7 +55,7 @@ variables <- function(bytes, values) {
   data.frame(name = vapply(fields, `[`, "", 3L), type = type, value = value, stringsAsFactors = FALSE)
 }
 
-# A permission to each field of a class, which follow its line; none for an int.
+# A permission to each field of a class (the `field` lines follow its line); none for an int.
 permissions <- function(lines, variable, class) {
   after <- lines[seq_along(lines) > match(paste0("class\t", class), lines, nomatch = length(lines))]
   count <- match(FALSE, startsWith(after, "field\t"), nomatch = length(after) + 1L) - 1L
@@ -63,7 +63,7 @@ permissions <- function(lines, variable, class) {
   sprintf("acc\t%s\t%s", variable, vapply(fields, `[`, "", 3L))
 }
 
-# The line that takes the place of `requires *`, of a text that is filled in.
+# The line that takes the place of `requires *`, for a text that is filled in.
 requires_line <- function(bytes, places) {
   lines <- strsplit(rawToChar(bytes), "\n", fixed = TRUE)[[1L]]
   star <- match("requires\t*", lines)
@@ -74,7 +74,7 @@ requires_line <- function(bytes, places) {
   paste(c("requires", choice[places]), collapse = "\t")
 }
 
-# How a run ended: number, line, steps and values as they come, and the text.
+# How a run ended, from number, line, steps and values as returned, and the text.
 ended <- function(returned, bytes) {
   refused <- refuses(returned[1L])
   more <- list(finished = returned[1L] == 0, refused = refused, steps = returned[3L],

@@ -1,8 +1,8 @@
-# The calls: a text and steps that fit, and answers made of what the library returns.
+# The calls: they test the text and the steps, and make answers from what the library returns.
 
 # The text of a file, byte by byte.
 station_script <- function(path) {
-  if (!is.character(path) || length(path) != 1L || is.na(path)) stop("path is no single name of a file")
+  if (!is.character(path) || length(path) != 1L || is.na(path)) stop("path must be the name of one file")
   if (!file.exists(path)) stop("there is no file ", path)
   readBin(path, "raw", file.size(path))
 }
@@ -30,7 +30,7 @@ station_run <- function(text, steps = 1000) ran(nuyardi_run, text, steps)
 
 station_trial <- function(text, steps = 1000) ran(nuyardi_trial, text, steps)
 
-# What station_run answers, always, from a machine that tests no permission.
+# Always the answer of station_run, from a machine that tests no permission.
 station_lean <- function(text, steps = 1000) ran(nuyardi_lean, text, steps)
 
 ran <- function(call, text, steps) {
@@ -56,12 +56,12 @@ station_fill <- function(text) {
   answer(returned, list(filled = filled, places = places, requires = line))
 }
 
-# Up to four texts over one heap, a step of each a round; without shares they are equal parts of 256 objects.
+# Up to four texts over one heap, one step of each per round; without `shares` they are equal parts of 256 objects.
 station_count <- function(texts, rounds = 1000, shares = NULL) {
   if (!is.list(texts) && !is.character(texts)) stop("texts must be a list of texts, and is ", class(texts)[1L])
   bytes <- lapply(texts, script_bytes)
   if (is.null(shares)) shares <- rep(256 %/% max(length(bytes), 1L), length(bytes))
-  if (length(shares) != length(bytes)) stop(length(bytes), " texts, and ", length(shares), " shares")
+  if (length(shares) != length(bytes)) stop(length(bytes), " texts, but ", length(shares), " shares")
   shares <- vapply(shares, steps_in_range, 0, name = "a share")
   returned <- .Call(nuyardi_count, bytes, steps_in_range(rounds, "rounds"), shares)
   counted <- returned[1L] == 0

@@ -1,6 +1,6 @@
 # The cards that a run made, over libnuyardi_explain.so, and a plot of them.
 
-# What JSON has as null is NA.
+# A null of JSON becomes NA.
 or_na <- function(value) if (is.null(value)) NA else value
 
 station_cards <- function(text, steps = 1000) {
@@ -21,7 +21,7 @@ card_fields <- function(card) {
              stringsAsFactors = FALSE)
 }
 
-# Cards as lists of JSON, made two data frames.
+# Two data frames, made from cards as JSON lists.
 carded <- function(cards) {
   none <- card_fields(list(object = 0L, fields = list()))
   made <- data.frame(object = vapply(cards, function(card) as.integer(card$object), 0L),
@@ -36,7 +36,7 @@ print.station_cards <- function(x, ...) {
   invisible(x)
 }
 
-# What stands in each card: its number and class, and a line for each field.
+# The text in each card: its number and class, and a line for each field.
 card_labels <- function(x) {
   values <- ifelse(x$fields$link & is.na(x$fields$value), "null", sprintf("%.0f", x$fields$value))
   lines <- if (nrow(x$fields) > 0L) paste0(x$fields$name, " = ", values) else character()

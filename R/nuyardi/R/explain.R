@@ -1,4 +1,4 @@
-# explain, trace and draw: over a second library, libnuyardi_explain.so. The cards are in cards.R.
+# explain, trace and draw, over a second library, libnuyardi_explain.so. The cards are in cards.R.
 
 explain_library <- function() Sys.getenv("NUYARDI_EXPLAIN_LIBRARY", "libnuyardi_explain.so")
 
@@ -9,7 +9,7 @@ written <- function(call, text, steps = NULL) {
 }
 
 parsed <- function(json, ...) {
-  # What the library says comes first, also that it is not there.
+  # Errors of the library come first, including that it is missing.
   force(json)
   if (!requireNamespace("jsonlite", quietly = TRUE)) stop("this needs the package jsonlite")
   jsonlite::fromJSON(json, ...)
@@ -18,7 +18,7 @@ parsed <- function(json, ...) {
 # What a function of the library writes; every answer has some bytes.
 answered <- function(call, text, steps = NULL) {
   said <- written(call, text, steps)
-  if (!nzchar(said)) stop(call, " gave no answer: a fault inside the library")
+  if (!nzchar(said)) stop(call, " gave no answer: an internal fault of the library")
   said
 }
 
@@ -47,7 +47,7 @@ station_draw <- function(text, steps = 1000) {
 }
 
 station_save <- function(drawing, path) {
-  if (!inherits(drawing, "station_drawing")) stop("drawing is none of station_draw")
+  if (!inherits(drawing, "station_drawing")) stop("drawing was not made by station_draw")
   writeLines(unclass(drawing), path, useBytes = TRUE)
   invisible(path)
 }
@@ -57,7 +57,7 @@ print.station_drawing <- function(x, ...) {
   invisible(x)
 }
 
-# The course of a run: the line of each step, with a mark that is the larger the deeper the call.
+# The course of a run: the line of each step, with a larger mark for a deeper call.
 plot.station_trace <- function(x, xlab = "step", ylab = "line", ...) {
   if (is.null(x$step) || is.null(x$line)) stop("the trace has no steps")
   plot(x$step, x$line, type = "n", xlab = xlab, ylab = ylab, ylim = rev(range(x$line)), ...)

@@ -1,5 +1,5 @@
 /* The calls of station.h over raw vectors. The areas are allocated here, each for one call: none is null, and none overlaps another or
- * the text. Values go back as doubles, since R's integers have no -2147483648 and nothing above 2147483647. */
+ * the text. Values are returned as doubles, since R's integers have no -2147483648 and nothing above 2147483647. */
 #include "nuyardi.h"
 
 #include <math.h>
@@ -21,20 +21,20 @@ static uint8_t *area(size_t bytes)
 void nuyardi_is_text(SEXP text)
 {
     if (TYPEOF(text) != RAWSXP)
-        Rf_error("text is no raw vector");
+        Rf_error("text is not a raw vector");
 }
 
 uint32_t nuyardi_steps(SEXP steps)
 {
     if (TYPEOF(steps) != REALSXP || XLENGTH(steps) != 1)
-        Rf_error("steps is no number");
+        Rf_error("steps is not a number");
     double count = REAL(steps)[0];
     if (!(count >= 0 && count <= UINT32_MAX && floor(count) == count))
         Rf_error("steps must be a whole number from 0 to 4294967295");
     return (uint32_t)count;
 }
 
-/* What was returned, as number and line, with so many further places. */
+/* What was returned, as number and line, with room for further values. */
 static SEXP answer(uint32_t returned, int further)
 {
     SEXP found = PROTECT(Rf_allocVector(REALSXP, 2 + further));
@@ -119,13 +119,13 @@ static void ended(double *found, const uint8_t *part)
         found[3 + at] = (int32_t)word(part, 2 + at);
 }
 
-/* Number, line, and for each text what `ended` has. More texts than four are counted, and not looked at. */
+/* Number, line, and for each text what `ended` has. Texts past the fourth are counted but not used. */
 SEXP nuyardi_count(SEXP texts, SEXP rounds, SEXP shares)
 {
     if (TYPEOF(texts) != VECSXP)
-        Rf_error("texts is no list");
+        Rf_error("texts is not a list");
     if (TYPEOF(shares) != REALSXP || XLENGTH(shares) != XLENGTH(texts))
-        Rf_error("shares are not as many numbers as there are texts");
+        Rf_error("shares must be numbers, one for each text");
     uint32_t scripts = XLENGTH(texts) > STATION_SCRIPTS ? STATION_SCRIPTS + 1 : (uint32_t)XLENGTH(texts);
     uint32_t looked_at = scripts > STATION_SCRIPTS ? STATION_SCRIPTS : scripts;
     const uint8_t *text[STATION_SCRIPTS] = {NULL};

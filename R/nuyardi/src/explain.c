@@ -1,5 +1,5 @@
-/* The functions of libnuyardi_explain.so, which is loaded when one of them is first asked for. Each writes into room that it is lent, if
- * that is enough, and returns the length that it needs. */
+/* The functions of libnuyardi_explain.so, which is loaded when one of them is first called. Each writes into the given room, if it is
+ * large enough, and returns the length that it needs. */
 #include "nuyardi.h"
 
 #include <dlfcn.h>
@@ -8,13 +8,13 @@
 typedef size_t of_text(const uint8_t *, size_t, char *, size_t);
 typedef size_t of_run(const uint8_t *, size_t, uint32_t, char *, size_t);
 
-/* A function of a library by its name; an error if either is not there. */
+/* A function of a library by its name; an error if either is missing. */
 static void *found(SEXP library, SEXP function)
 {
     const char *place = CHAR(STRING_ELT(library, 0)), *name = CHAR(STRING_ELT(function, 0));
     void *loaded = dlopen(place, RTLD_NOW | RTLD_LOCAL);
     if (!loaded)
-        Rf_error("libnuyardi_explain.so can not be loaded (%s); NUYARDI_EXPLAIN_LIBRARY names another", dlerror());
+        Rf_error("libnuyardi_explain.so cannot be loaded (%s); NUYARDI_EXPLAIN_LIBRARY can name another", dlerror());
     void *address = dlsym(loaded, name);
     if (!address)
         Rf_error("%s has no function %s", place, name);

@@ -8,7 +8,7 @@
 
 #include <stdint.h>
 
-/* The steps, which R has as a double; an error if they are no whole number of 32 bits. */
+/* The steps, which R has as a double; an error if they are not a whole number of 32 bits. */
 uint32_t nuyardi_steps(SEXP steps);
 
 /* An error unless the text is a raw vector. */

@@ -31,11 +31,11 @@ bare <- sub("requires\tacc\tthis\tn\n", "requires\n", worked, fixed = TRUE)
 stopifnot(station_check(bare)$number == 12L, station_check(bare)$line == 7L, !station_check(bare)$accepted)
 stopifnot(station_run(bare)$refused, nrow(station_run(bare)$variables) == 0L, station_trial(bare)$number == 24L)
 
-# The lean machine answers as run does, also of a text that is refused.
+# The lean machine gives the same answers as run, also for a refused text.
 for (script in list(worked, bare, "", raw(40000)))
   for (steps in c(0, 3, 1000)) stopifnot(identical(station_lean(script, steps), station_run(script, steps)))
 
-# Values at the ends, null, no bound, texts of any bytes.
+# Extreme values, null, no bound, texts of any bytes.
 ends <- station_run(text("class S", "main", "var S s", "var int a", "var int b", "let a -2147483648", "let b 2147483647", "end"))
 stopifnot(identical(ends$variables$value, c(NA, -2147483648, 2147483647)))
 looped <- station_bound(text("main", "loop eq 1 1", "again", "end"))
@@ -71,11 +71,11 @@ for (none in list(station_count(list()), station_count(rep(worked, 5)), station_
 refuses(station_count(5), "texts must be a list of texts")
 refuses(station_count(list(5)), "text must be a raw vector or one string")
 refuses(station_count(worked, -1), "rounds must be a whole number")
-refuses(station_count(worked, 1, 1:2), "1 texts, and 2 shares")
+refuses(station_count(worked, 1, 1:2), "1 texts, but 2 shares")
 refuses(station_count(worked, 1, 0.5), "a share must be a whole number")
-refuses(.Call(nuyardi:::nuyardi_count, worked, 1, 1), "texts is no list")
-refuses(.Call(nuyardi:::nuyardi_count, list(worked), 1, 1), "text is no raw vector")
-refuses(.Call(nuyardi:::nuyardi_count, list(raw()), 1, c(1, 1)), "shares are not as many numbers")
+refuses(.Call(nuyardi:::nuyardi_count, worked, 1, 1), "texts is not a list")
+refuses(.Call(nuyardi:::nuyardi_count, list(worked), 1, 1), "text is not a raw vector")
+refuses(.Call(nuyardi:::nuyardi_count, list(raw()), 1, c(1, 1)), "shares must be numbers, one for each text")
 
 # A file.
 path <- tempfile()
@@ -94,14 +94,14 @@ for (call in list(station_run, station_trial, station_lean)) {
   stopifnot(call(worked, 4294967295)$finished, call(worked, 0)$number == 21L)
 }
 
-# Below the R functions the C functions test what they are given too.
-refuses(.Call(nuyardi:::nuyardi_check, NULL), "text is no raw vector")
-refuses(.Call(nuyardi:::nuyardi_check, "main"), "text is no raw vector")
-refuses(.Call(nuyardi:::nuyardi_run, raw(), NULL), "steps is no number")
+# The C functions below the R functions test their arguments too.
+refuses(.Call(nuyardi:::nuyardi_check, NULL), "text is not a raw vector")
+refuses(.Call(nuyardi:::nuyardi_check, "main"), "text is not a raw vector")
+refuses(.Call(nuyardi:::nuyardi_run, raw(), NULL), "steps is not a number")
 refuses(.Call(nuyardi:::nuyardi_run, raw(), -1), "steps must be a whole number")
-refuses(.Call(nuyardi:::nuyardi_lean, "main", 1), "text is no raw vector")
+refuses(.Call(nuyardi:::nuyardi_lean, "main", 1), "text is not a raw vector")
 refuses(.Call(nuyardi:::nuyardi_lean, raw(), 0.5), "steps must be a whole number")
-refuses(.Call(nuyardi:::nuyardi_fill, "main"), "text is no raw vector")
+refuses(.Call(nuyardi:::nuyardi_fill, "main"), "text is not a raw vector")
 
 # Words for people.
 stopifnot(identical(capture.output(print(station_check(bare))), "line 7: permission not shown (number 12)"))

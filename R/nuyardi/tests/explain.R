@@ -1,4 +1,4 @@
-# The library of explanations: an error where it is not there, and what it says where it is.
+# The library of explanations: an error if it is missing, and what it says otherwise.
 library(nuyardi)
 
 refuses <- function(expression, words) {
@@ -10,7 +10,7 @@ text <- "main\nvar\tint\ta\nlet\ta\t7\nend\n"
 library_there <- Sys.getenv("NUYARDI_EXPLAIN_LIBRARY")
 Sys.setenv(NUYARDI_EXPLAIN_LIBRARY = "/nowhere/libnuyardi_explain.so")
 for (call in list(station_explain, station_explain_run, station_trace, station_cards, station_draw))
-  refuses(call(text), "libnuyardi_explain.so can not be loaded")
+  refuses(call(text), "libnuyardi_explain.so cannot be loaded")
 refuses(station_trace(text, -1), "steps must be a whole number")
 refuses(station_draw(5), "text must be a raw vector or one string")
 Sys.setenv(NUYARDI_EXPLAIN_LIBRARY = "libc.so.6")
@@ -20,7 +20,7 @@ refuses(station_draw(text), "has no function nuyardi_draw")
 path <- tempfile()
 station_save(structure("<svg/>", class = "station_drawing"), path)
 stopifnot(identical(readLines(path), "<svg/>"))
-refuses(station_save("<svg/>", path), "drawing is none of station_draw")
+refuses(station_save("<svg/>", path), "drawing was not made by station_draw")
 
 # Cards become rows, which can be plotted: none, one that links to itself, links of a ring, null, a card without a field, many.
 field <- function(name, value, link, ring = FALSE, holder = 0L)

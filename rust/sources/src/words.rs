@@ -14,16 +14,19 @@ const fn avoid(word: &'static str, instead: &'static str) -> Avoided {
     Avoided { word, instead }
 }
 
-pub const AVOIDED: [Avoided; 23] = [
+pub const AVOIDED: [Avoided; 38] = [
     avoid("mend", "fix"),
     avoid("mends", "fixes"),
     avoid("mended", "fixed"),
+    avoid("mending", "fixing"),
     avoid("anew", "again"),
+    avoid("afresh", "again"),
     avoid("parted by", "separated by"),
     avoid("part fields", "separate fields"),
     avoid("heed", "respect"),
     avoid("heeds", "respects"),
     avoid("heeded", "respected"),
+    avoid("heeding", "respecting"),
     avoid("whilst", "while"),
     avoid("lest", "so that .. not"),
     avoid("wherein", "in which"),
@@ -35,13 +38,25 @@ pub const AVOIDED: [Avoided; 23] = [
     avoid("albeit", "although"),
     avoid("upon", "on"),
     avoid("likewise", "also"),
+    avoid("dear", "expensive"),
     avoid("dearest", "most expensive"),
     avoid("dearer", "more expensive"),
     avoid("can not", "cannot"),
+    avoid("till", "until"),
+    avoid("none the less", "nonetheless"),
+    avoid("known no more", "no longer known"),
+    avoid("for else", "because otherwise"),
+    avoid("told by", "described by"),
+    avoid("stands beside", "is next to"),
+    avoid("at most so many", "at most that many"),
+    avoid("first so many", "that many of the first"),
+    avoid("its length apart", "apart from its length"),
+    avoid("not its form", "not the right form"),
+    avoid("not their form", "not the right form"),
 ];
 
 /// Folders and files with texts for people. The papers are as they were received, and the scripts' own names are theirs.
-const READ: [&str; 14] = [
+const READ: [&str; 15] = [
     "README.md",
     "CONTRIBUTING.md",
     "Makefile",
@@ -56,6 +71,7 @@ const READ: [&str; 14] = [
     "rust/explain",
     "rust/explain-c",
     "rust/host",
+    "tools",
 ];
 
 /// Folders below them that hold what is received or made.
