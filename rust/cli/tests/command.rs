@@ -452,7 +452,7 @@ fn fmt_mends() {
     }
 }
 
-/// `fmt --write` changes only files that have not their form, and leaves
+/// `fmt --write` changes only files that are not in their form, and leaves
 /// nothing beside them.
 #[test]
 fn fmt_writes() {

@@ -23,7 +23,7 @@ fn written(name: &str, text: &[u8]) -> (PathBuf, String) {
     (file, name)
 }
 
-/// The file is as it was, and nothing stands beside it.
+/// The file is as it was, and no other file is next to it.
 fn untouched(file: &Path, text: &[u8]) {
     assert_eq!(std::fs::read(file).expect("the file"), text);
     let folder = file.parent().expect("a folder");

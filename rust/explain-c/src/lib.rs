@@ -132,7 +132,7 @@ pub unsafe extern "C" fn nuyardi_explain(
     unsafe { said(text, length, out, check_said, 0) }
 }
 
-/// How a run of at most so many steps ends and why, as JSON: what `station run
+/// How a run of at most that many steps ends and why, as JSON: what `station run
 /// --json --steps N -` prints.
 ///
 /// # Safety

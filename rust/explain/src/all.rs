@@ -23,7 +23,7 @@ pub struct Further {
     pub cause: Option<Cause>,
 }
 
-/// At most so many refusals are listed.
+/// At most that many refusals are listed.
 pub const MOST: usize = 50;
 
 /// A text with its broken lines replaced, and what was found on the way.

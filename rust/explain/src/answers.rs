@@ -9,13 +9,13 @@ pub trait Answers {
     /// Is the text accepted?
     fn check(&mut self, text: &[u8]) -> Result<(), Refusal>;
 
-    /// A run of at most so many steps, of a text that is accepted.
+    /// A run of at most that many steps, of a text that is accepted.
     fn run<'t>(&mut self, text: &'t [u8], steps: u32) -> Result<Outcome<'t>, Refusal>;
 
     /// What `run` answers, from the machine that keeps no permissions.
     fn lean<'t>(&mut self, text: &'t [u8], steps: u32) -> Result<Outcome<'t>, Refusal>;
 
-    /// A run of at most so many steps, of each text that the reader takes.
+    /// A run of at most that many steps, of each text that the reader takes.
     fn trial<'t>(&mut self, text: &'t [u8], steps: u32) -> Outcome<'t>;
 
     /// The most that a run can take.
@@ -24,7 +24,7 @@ pub trait Answers {
     /// The permissions that a line `requires *` stands for.
     fn fill<'t>(&mut self, text: &'t [u8]) -> Result<Filled<'t>, NotFilled>;
 
-    /// Scripts over one heap, for at most so many rounds.
+    /// Scripts over one heap, for at most that many rounds.
     fn count<'t>(&mut self, scripts: &[Share<'t>], rounds: u32) -> Result<Counted<'t>, NotCounted>;
 }
 

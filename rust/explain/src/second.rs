@@ -42,7 +42,7 @@ pub fn without_quotes(said: &str, text: &[u8]) -> String {
     said
 }
 
-/// At most so many bytes of a long line are shown.
+/// At most that many bytes of a long line are shown.
 const SHOWN_BYTES: usize = 100;
 
 /// Lines of the text with their numbers, each with a rule below it.

@@ -93,7 +93,7 @@ impl Paint {
     }
 }
 
-/// At most so many bytes of a long line are shown.
+/// At most that many bytes of a long line are shown.
 const SHOWN_BYTES: usize = 100;
 
 /// The line with its number, and marks below it: below its marked bytes, else

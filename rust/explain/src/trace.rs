@@ -11,7 +11,7 @@ use model::machine::{Machine, Step, Values};
 use model::names::Action;
 use std::cmp::Ordering;
 
-/// At most so many steps stand in one JSON object.
+/// At most that many steps stand in one JSON object.
 pub const JSON_ROWS: usize = 100_000;
 
 /// One step of a run.

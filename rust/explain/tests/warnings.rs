@@ -66,7 +66,7 @@ fn accepted(text: &[u8]) -> bool {
     model::check(text) == (0, 0)
 }
 
-/// The lines that a run does, of at most so many steps.
+/// The lines that a run does, of at most that many steps.
 fn done(text: &[u8]) -> Vec<bool> {
     let program = model::read(text).expect("a text that is read");
     let mut done = vec![false; lines(text).len() + 1];

@@ -111,7 +111,7 @@ pub fn check(text: &[u8], work: &mut [u8]) -> Returned {
     })
 }
 
-/// Runs the text for at most so many steps, if check accepts it, with a results
+/// Runs the text for at most that many steps, if check accepts it, with a results
 /// area of [`RESULTS_BYTES`](crate::limits::RESULTS_BYTES) bytes: the steps taken,
 /// then the values of main's variables, 4 bytes each, low byte first. A text that
 /// check refuses gets check's number and line, and zeros.
@@ -229,7 +229,7 @@ fn told(call: raw::Tells, text: &[u8], work: &mut [u8], area: &mut [u8]) -> Retu
     })
 }
 
-/// Runs the first so many of four texts over one heap, one step of each a round, each
+/// Runs the first `scripts` of four texts over one heap, one step of each a round, each
 /// with its share of the heap, and a results area of
 /// [`COUNT_BYTES`](crate::limits::COUNT_BYTES) bytes: for each text what [`run`] returns
 /// for it alone, with its share for the heap and the rounds as steps, then what it

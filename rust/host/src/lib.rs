@@ -69,7 +69,7 @@ pub fn check(text: &[u8]) -> Result<Accepted<'_>, Refusal> {
     Station::new().check(text)
 }
 
-/// Runs a text for at most so many steps, if check accepts it; see [`Station::run`].
+/// Runs a text for at most that many steps, if check accepts it; see [`Station::run`].
 ///
 /// ```
 /// let outcome = nuyardi::run(b"main\nvar\tint\ta\nlet\ta\t1\nend\n", 1_000)?;
@@ -95,7 +95,7 @@ pub fn lean(text: &[u8], steps: u32) -> Result<Outcome<'_, AcceptedEnding>, Refu
     Station::new().lean(text, steps)
 }
 
-/// Runs a text for at most so many steps, accepted or not; see [`Station::trial`].
+/// Runs a text for at most that many steps, accepted or not; see [`Station::trial`].
 ///
 /// ```
 /// let outcome = nuyardi::trial(b"main\nvar\tint\ta\nassert\teq\ta\t1\nend\n", 1_000);

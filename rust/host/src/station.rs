@@ -87,7 +87,7 @@ impl<W: BorrowMut<[u8; WORK_BYTES]>> Station<W> {
         }
     }
 
-    /// Runs a text for at most so many steps, if check accepts it: refused as by
+    /// Runs a text for at most that many steps, if check accepts it: refused as by
     /// check, or run to an [`AcceptedEnding`]. There is no third, by a theorem. A
     /// text that is run more than once is better checked once, and run by
     /// [`Accepted::run`].
@@ -151,7 +151,7 @@ impl<W: BorrowMut<[u8; WORK_BYTES]>> Station<W> {
         }
     }
 
-    /// Tries a text out: runs it for at most so many steps, accepted or not. A
+    /// Tries a text out: runs it for at most that many steps, accepted or not. A
     /// text that check refuses with one of the numbers 10 to 14 runs all the same;
     /// the machine tests every permission.
     pub fn trial<'t>(&mut self, text: &'t [u8], steps: u32) -> Outcome<'t> {
@@ -212,7 +212,7 @@ impl<W: BorrowMut<[u8; WORK_BYTES]>> Station<W> {
 
     /// The first set of at most [`FILLED`](crate::limits::FILLED) permissions that may
     /// take the place of the star in a line `requires *`: with them check accepts the
-    /// text, its length apart. Fewer permissions come first, then the fields of `this`
+    /// text, apart from its length. Fewer permissions come first, then the fields of `this`
     /// in the order of their lines, then those of the parameter. One method has such a
     /// line, and all else in the text is complete.
     ///
@@ -242,7 +242,7 @@ impl<W: BorrowMut<[u8; WORK_BYTES]>> Station<W> {
     }
 
     /// Runs up to [`SCRIPTS`](crate::limits::SCRIPTS) scripts over one heap, one step of
-    /// each a round, in order, for at most so many rounds. A script that is refused,
+    /// each a round, in order, for at most that many rounds. A script that is refused,
     /// finished or stopped is passed over. What becomes of each is the same whatever
     /// the others do, by a theorem: what [`Station::run`] answers of it alone, with its
     /// share for the heap and the rounds as steps.
@@ -319,7 +319,7 @@ impl<'t> Accepted<'t> {
         self.text
     }
 
-    /// Runs the text for at most so many steps. It finishes, or stops for want
+    /// Runs the text for at most that many steps. It finishes, or stops for want
     /// of room or at a sum beyond 32 bits: an [`AcceptedEnding`] has no other
     /// case, by a theorem. It is not checked again: an accepted text gets the same
     /// from run and from trial, by another.

@@ -174,7 +174,7 @@ impl<'p, 'a> Lean<'p, 'a> {
     }
 }
 
-/// The lean run of an accepted program, of at most so many steps.
+/// The lean run of an accepted program, of at most that many steps.
 pub(crate) fn run(program: &Program, allowed: u32) -> Run {
     let mut machine = Lean::new(program);
     let mut steps = 0;

@@ -9,7 +9,7 @@ use explain::script::{quoted, Script};
 use explain::trace;
 use model::machine::{Machine, Step};
 
-/// At most so many steps are shown, from the first on, and the last one.
+/// At most that many steps are shown, from the first on, and the last one.
 const STEPS: usize = 400;
 /// Pictures of so many bytes at most, of all scripts of a page, but for the last
 /// picture of each.

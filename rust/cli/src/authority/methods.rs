@@ -149,7 +149,7 @@ impl<'s, 'a> Blocks<'s, 'a> {
             return false;
         }
         if [share, write.to.share].contains(&Share::Chain) {
-            // What stands beside the other before the line has no card of it.
+            // What is next to the other before the line has no card of it.
             let (one, other) = (write.to.atom(), handed.atom());
             return !self.contracts.beside(write.place, one, other);
         }

@@ -24,7 +24,7 @@ fn character(bytes: &[u8]) -> Option<char> {
         .find_map(|text| text.chars().next())
 }
 
-/// Letters from here on are told by their number alone: some turn the direction
+/// Letters from here on are shown by their number alone: some turn the direction
 /// of what a terminal shows.
 const LATIN: char = '\u{250}';
 

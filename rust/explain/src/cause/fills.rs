@@ -49,7 +49,7 @@ fn stars(text: &[u8], number: u32) -> Cause {
         .help("write one of the two by hand")
 }
 
-/// The sets of at most so many places of a number of them: fewer first, then by their
+/// The sets of at most that many places of a number of them: fewer first, then by their
 /// places in order.
 fn sets(places: usize, most: usize) -> Vec<Vec<u8>> {
     let mut all = vec![Vec::new()];

@@ -38,7 +38,7 @@ fn means(operand: Operand) -> &'static str {
     }
 }
 
-/// Number 4: the line has not its form, or stands in the wrong place.
+/// Number 4: the line is not in its form, or stands in the wrong place.
 pub fn malformed(text: &[u8], number: u32) -> Option<Cause> {
     let bytes = line(text, number)?;
     let mut reader = Reader::new();

@@ -18,7 +18,7 @@ use model::text::Share;
 use model::watch::{Asked, Purpose, Record};
 use std::ops::Range;
 
-/// At most so many known terms are listed.
+/// At most that many known terms are listed.
 const LISTED: usize = 6;
 
 /// What is not shown: the atom as asked, and what has to be shown for it, a

@@ -11,7 +11,7 @@ use model::watch::Halt;
 /// What helps with a ring.
 pub const NO_RING: &str = "leave out the line that closes the ring, or let a link of it be null";
 
-/// At most so many cards of a walk are told.
+/// At most that many cards of a walk are told.
 const TOLD: usize = 12;
 
 /// Did the walk over a chain lack a permission?

@@ -1,4 +1,4 @@
-//! Possible fixes of a line that has not its form: another word, a field split,
+//! Possible fixes of a line that is not in its form: another word, a field split,
 //! dropped or given a variable of its own.
 
 use super::draft::{both, delete, insert, Candidate, Draft};

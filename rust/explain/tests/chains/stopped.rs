@@ -76,7 +76,7 @@ fn rings_with_their_cards() {
     }
 }
 
-/// A walk over many cards is told by its ends.
+/// A walk over many cards is described by its ends.
 #[test]
 fn long_walks() {
     let grown = "|let a 0|loop ne a 40|new t S|set t p s|let s t|add a a one|again";
