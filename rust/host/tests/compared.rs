@@ -187,7 +187,7 @@ fn lengths_and_single_bytes() {
 
 /// Texts of so many seeds; a fortieth of them without optimisation. How often
 /// each call gave each number.
-fn compared(texts: Texts, seeds: u64) -> Counts {
+fn seeds_compared(texts: Texts, seeds: u64) -> Counts {
     let seeds = if cfg!(debug_assertions) {
         seeds / 40
     } else {
@@ -216,7 +216,7 @@ fn gave(call: &str, counts: &[u64], numbers: &[RangeInclusive<usize>]) {
 
 #[test]
 fn a_million_texts() {
-    let [checks, runs, trials, bounds, leans, fills] = compared(Texts::Any, 50_000);
+    let [checks, runs, trials, bounds, leans, fills] = seeds_compared(Texts::Any, 50_000);
     let texts: u64 = checks.iter().sum();
     assert!(cfg!(debug_assertions) || texts >= 1_000_000);
     assert_eq!(leans, runs, "lean's numbers are run's");
@@ -232,7 +232,7 @@ fn a_million_texts() {
 /// `make soak`.
 #[test]
 fn texts_to_be_filled_in() {
-    let [checks, .., fills] = compared(Texts::Starred, 5_000);
+    let [checks, .., fills] = seeds_compared(Texts::Starred, 5_000);
     gave("check", &checks, &[0..=0, 2..=14]);
     gave("fill", &fills, &[0..=0, 2..=9, 17..=18]);
 }
