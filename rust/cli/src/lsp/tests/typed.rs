@@ -135,7 +135,7 @@ fn names_before_others() {
 #[test]
 fn names_that_are_left_out() {
     let mut tried = 0;
-    for text in readable().into_iter().take(60) {
+    for text in readable() {
         let mut names: Vec<&str> = text.split(['\t', '\n', '.']).collect();
         names.retain(|name| model::text::name(name.as_bytes()).is_some());
         names.sort_unstable();
