@@ -55,7 +55,7 @@ pub const AVOIDED: [Avoided; 38] = [
     avoid("not their form", "not the right form"),
 ];
 
-/// Folders and files with texts for people. The papers are as they were received, and the scripts' own names are theirs.
+/// Folders and files with texts for people. The papers stay as received, and scripts keep their own names.
 const READ: [&str; 15] = [
     "README.md",
     "CONTRIBUTING.md",
@@ -74,10 +74,10 @@ const READ: [&str; 15] = [
     "tools",
 ];
 
-/// Folders below them that hold what is received or made.
+/// Folders below them that hold received or generated files.
 const LEFT_OUT: [&str; 4] = ["papers", "target", "node_modules", "__pycache__"];
 
-/// The texts that people read: path from the root, and text. A file that is no text has none.
+/// The texts that people read: path from the root, and text. Files that are not text are skipped.
 pub fn texts_for_people() -> Vec<(String, String)> {
     let mut texts = Vec::new();
     for place in READ {
@@ -98,7 +98,7 @@ fn gather(path: &Path, texts: &mut Vec<(String, String)>) {
     }
 }
 
-/// Where the word stands in the line, on its own: no letter, digit or `_` beside it.
+/// Where the line has the word on its own, with no letter, digit or `_` next to it.
 fn stands(line: &str, word: &str) -> Option<usize> {
     let part = |c: char| c.is_alphanumeric() || c == '_';
     line.match_indices(word).map(|(at, _)| at).find(|&at| {
@@ -107,7 +107,7 @@ fn stands(line: &str, word: &str) -> Option<usize> {
     })
 }
 
-/// Whether the place stands between quotation marks around words of a paper.
+/// Whether the place is between quotation marks around words of a paper.
 fn is_quoted(line: &str, at: usize, papers: &str) -> bool {
     let mut marks = line.match_indices('"').map(|(mark, _)| mark);
     let Some(begin) = marks.by_ref().take_while(|&mark| mark < at).last() else {
@@ -118,7 +118,7 @@ fn is_quoted(line: &str, at: usize, papers: &str) -> bool {
     papers.contains(words.trim_end_matches(['.', ';', ':', ',']))
 }
 
-/// Words to avoid in a text, each with its line and what to write instead; what quotes a paper is left alone.
+/// Words to avoid in a text, each with its line and what to write instead; quotes of a paper are left alone.
 pub fn avoided_words(path: &str, text: &str, papers: &str) -> Vec<String> {
     let mut found = Vec::new();
     for (number, line) in text.lines().enumerate() {
