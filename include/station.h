@@ -32,7 +32,7 @@
 extern "C" {
 #endif
 
-#define STATION_VERSION "0.12.2"
+#define STATION_VERSION "0.13.0"
 
 /* Lengths of the areas, in bytes: each call takes these and no other. */
 #define STATION_WORK_BYTES 65536

@@ -84,7 +84,7 @@ pub const EXPLANATIONS: &[Explanation] = &[
     },
     Explanation {
         number: 3,
-        title: "a byte that may not stand in a text",
+        title: "a byte that is not allowed in a text",
         meaning: "A text has tabs, line ends (LF) and the visible ASCII characters, and its last \
                   line is ended too. Blanks, CR, accented letters and control characters are refused.",
         advice: "separate fields by tabs, not blanks, end lines with LF alone, and end the last line",
@@ -92,7 +92,7 @@ pub const EXPLANATIONS: &[Explanation] = &[
     },
     Explanation {
         number: 4,
-        title: "a line that has no form of the language, or stands in the wrong place",
+        title: "a line that the grammar does not have, or that is in the wrong place",
         meaning: "The first word is unknown, a field is missing or too many, a field is no name, \
                   number, expression or atom, or the line may not stand here: `requires` and \
                   `ensures` follow `method`, `var` lines come before statements, every `if` has \

@@ -310,7 +310,7 @@ fn fills_in_words() {
     let none = said(include_bytes!("../../../examples/refused-17.script"));
     assert!(none.starts_with(starts), "{none}");
     assert!(said(b"main\nend\n").starts_with("no `requires *` to be filled in, or a second one"));
-    assert!(said(b"main\nend").starts_with("line 2: a byte that may not stand in a text"));
+    assert!(said(b"main\nend").starts_with("line 2: a byte that is not allowed in a text"));
 }
 
 /// Counts of up to four scripts: each as run has it alone, where the share is the
@@ -388,6 +388,6 @@ fn a_refusal_is_an_error() {
     }
     assert_eq!(checked(b"main\nend\n").expect("accepted"), 1);
     let error = checked(b"main\nend").expect_err("the last line is not ended");
-    let words = "line 2: a byte that may not stand in a text (number 3); separate fields by tabs";
+    let words = "line 2: a byte that is not allowed in a text (number 3); separate fields by tabs";
     assert!(error.to_string().starts_with(words), "{error}");
 }

@@ -1,4 +1,4 @@
-//! Numbers 2 and 3: too many bytes, and bytes that may not stand in a text.
+//! Numbers 2 and 3: too many bytes, and bytes that are not allowed in a text.
 
 use super::Cause;
 use crate::script::line;
