@@ -8,49 +8,49 @@ use Rattle.write_formulas.proofs.put_claim.Tie as tie
 
 put-formula-requires : tie.Need-put-formula-requires
 put-formula-requires c κs =
-    let p = c .before .before .before .pre in
-    let v = c .before .before .before .args in
+    let p = @start .pre in
+    let v = @start .args in
     (p .0, claim-line (v .kind) (v .i) (v .line) (p .0) (p .1))
 
 enum-known-p : tie.Need-enum-known-p
 enum-known-p c = search needs
 
-enum-told : tie.Need-enum-told
-enum-told c = search needs
+enum-known-p-2 : tie.Need-enum-known-p-2
+enum-known-p-2 c = search needs
 
 same-length : tie.Need-same-length
 same-length c = search needs
 
 returns : tie.Need-returns
 returns c =
-    claim-bad _ _ _ _ _ _ _ (c .before .before .before .before .put-formula .ensures) (c .enum-told .given .1) _ _ _
+    claim-bad _ _ _ _ _ _ _ (@put-formula .ensures) (@p .given .1) _ _ _
 
 formula-first-requires : tie.Need-formula-first-requires
-formula-first-requires c κs = let p = c .before .before .before .before .before .before .before .before .before .pre in omega (arith, p .1 .formula .room)
+formula-first-requires c κs = let p = @start .pre in omega (arith, p .1 .formula .room)
 
 sub-t17 : tie.Need-sub-t17
 sub-t17 c =
-    let p = c .before .before .before .before .before .before .before .before .before .before .before .pre in
-    let v = c .before .before .before .before .before .before .before .before .before .before .before .args in
-    let y = tried-done _ _ _ _ _ _ _ (c .before .before .before .before .before .before .before .put-formula .ensures) _ (c .before .before .before .p .given .1) in
-    omega (arith, claim-least (v .kind) (v .i) (v .line) (p .0) (p .1) (y .1) (p .3) (c .before .formula-first .ensures))
+    let p = @start .pre in
+    let v = @start .args in
+    let y = tried-done _ _ _ _ _ _ _ (@put-formula .ensures) _ (@p2 .given .1) in
+    omega (arith, claim-least (v .kind) (v .i) (v .line) (p .0) (p .1) (y .1) (p .3) (@formula-first .ensures))
 
 put-row-requires : tie.Need-put-row-requires
 put-row-requires c κs =
-    let p = c .before .before .before .before .before .before .before .before .before .before .before .pre in
-    let v = c .before .before .before .before .before .before .before .before .before .before .before .args in
-    let y = tried-done _ _ _ _ _ _ _ (c .before .before .before .before .before .before .before .put-formula .ensures) _ (c .before .before .before .p .given .1) in
-    (y .1 .size ∙ p .0 .whole, (p .2, claim-bytes (v .kind) (v .i) (v .line) (p .0) (p .1) (y .1) (p .3) (c .before .formula-first .ensures)))
+    let p = @start .pre in
+    let v = @start .args in
+    let y = tried-done _ _ _ _ _ _ _ (@put-formula .ensures) _ (@p2 .given .1) in
+    (y .1 .size ∙ p .0 .whole, (p .2, claim-bytes (v .kind) (v .i) (v .line) (p .0) (p .1) (y .1) (p .3) (@formula-first .ensures)))
 
 same-length-2 : tie.Need-same-length-2
 same-length-2 c = search needs
 
 returns-2 : tie.Need-returns-2
 returns-2 c =
-    let p = c .before .before .before .before .before .before .before .before .before .before .before .before .before .before .pre in
-    let v = c .before .before .before .before .before .before .before .before .before .before .before .before .before .before .args in
-    let y = tried-done _ _ _ _ _ _ _ (c .before .before .before .before .before .before .before .before .before .before .put-formula .ensures) _ (c .before .before .before .before .before .before .p .given .1) in
-    claim-done _ _ _ _ _ _ _ _ _ _ (y .0) (claim-put (v .kind) (v .i) (v .line) (p .0) (p .1) (y .1) (p .3) (p .2) (c .before .before .before .before .formula-first .ensures) _ (c .before .before .put-row .ensures))
+    let p = @start .pre in
+    let v = @start .args in
+    let y = tried-done _ _ _ _ _ _ _ (@put-formula .ensures) _ (@p2 .given .1) in
+    claim-done _ _ _ _ _ _ _ _ _ _ (y .0) (claim-put (v .kind) (v .i) (v .line) (p .0) (p .1) (y .1) (p .3) (p .2) (@formula-first .ensures) _ (@put-row .ensures))
 
 pub put-claim-spec : {M : Type 1} → statement M
 put-claim-spec =
