@@ -21,7 +21,7 @@ same-length c = search needs
 
 returns : tie.Need-returns
 unfolding LineTried
-returns c = item-bad (c .before .before .before .before .put-formula .ensures) (c .enum-told .given .1)
+returns c = item-bad (@put-formula .ensures) _ (@t .given .1)
 
 add-t12 : tie.Need-add-t12
 add-t12 c = search needs
@@ -32,8 +32,8 @@ same-length-2 c = search needs
 returns-2 : tie.Need-returns-2
 unfolding LineTried
 returns-2 c =
-    let p = c .before .before .before .before .before .before .before .before .before .before .before .before .pre in
-    let y = item-done (c .before .before .before .before .before .before .before .before .put-formula .ensures) _ (c .before .before .before .before .t .given .1) in
+    let p = @start .pre in
+    let y = item-done (@put-formula .ensures) _ (@t2 .given .1) in
     (y .0, (header-line (p .0) _ (y .1) (p .1 .0) (p .1 .1) refl refl refl refl refl, refl))
 
 pub put-header-spec : {M : Type 1} → statement M

@@ -22,18 +22,18 @@ same-length c = search needs
 
 returns : tie.Need-returns
 unfolding LineTried
-returns c = item-bad (c .before .before .before .before .put-row .ensures) (c .enum-told .given .1)
+returns c = item-bad (@put-row .ensures) _ (@t .given .1)
 
 names-after-requires : tie.Need-names-after-requires
 names-after-requires c κs = search needs
 
 add-t13 : tie.Need-add-t13
 add-t13 c =
-    let p = c .before .before .before .before .before .before .before .before .before .before .before .before .before .pre in
+    let p = @start .pre in
     omega (arith, row-room (p .0) (p .1))
 
 add-t14 : tie.Need-add-t14
-add-t14 c = omega (arith, line-small (c .before .before .before .before .before .before .before .before .before .before .before .before .before .before .pre .0))
+add-t14 c = omega (arith, line-small (@start .pre .0))
 
 same-length-2 : tie.Need-same-length-2
 same-length-2 c = search needs
@@ -41,9 +41,9 @@ same-length-2 c = search needs
 returns-2 : tie.Need-returns-2
 unfolding LineTried
 returns-2 c =
-    let p = c .before .before .before .before .before .before .before .before .before .before .before .before .before .before .pre in
-    let y = item-done (c .before .before .before .before .before .before .before .before .before .before .put-row .ensures) _ (c .before .before .before .before .before .before .t .given .1) in
-    (y .0, (statement-line (p .0) _ (y .1) (p .1) (c .before .before .before .names-after .ensures) refl refl refl refl, refl))
+    let p = @start .pre in
+    let y = item-done (@put-row .ensures) _ (@t2 .given .1) in
+    (y .0, (statement-line (p .0) _ (y .1) (p .1) (@names-after .ensures) refl refl refl refl, refl))
 
 pub put-statement-spec : {M : Type 1} → statement M
 put-statement-spec =

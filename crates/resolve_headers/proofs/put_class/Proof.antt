@@ -19,8 +19,8 @@ same-length c = search needs
 
 returns : tie.Need-returns
 returns c =
-    let start = c .before .before .before .before .before .before .before .before .before in
-    (c .moved .ensures ∙ (λ j. moved (start .args .p) (start .args .p .names) (c .before .with-class .ensures j) (start .args .p .main)), c .before .before .before .before .put-class-row .ensures)
+    let start = @start in
+    (@moved .ensures ∙ (λ j. moved (start .args .p) (start .args .p .names) (@with-class .ensures j) (start .args .p .main)), @put-class-row .ensures)
 
 pub put-class-spec : {M : Type 1} → statement M
 put-class-spec =

@@ -13,8 +13,8 @@ use Rattle.resolve_headers.proofs.put_declaration.Tie as tie
 put-class-requires : tie.Need-put-class-requires
 unfolding kindNumber
 put-class-requires c κs =
-    let p = c .before .before .before .before .pre in
-    let m = room-as Class (c .before .match .keys1) (p .2) in
+    let p = @start .pre in
+    let m = room-as Class (@match .keys1) (p .2) in
     (p .0 .whole, p .0 .above, omega (arith, m .class refl .0, p .0 .names .classes), p .2 .line)
 
 put-main-requires : tie.Need-put-main-requires
@@ -26,20 +26,20 @@ same-length c = search needs
 returns : tie.Need-returns
 unfolding kindNumber isKind isStatement namesAfter
 returns c =
-    let p = c .before .before .before .before .before .before .before .pre in
-    let v = c .before .before .before .before .before .before .before .args in
-    let e = c .before .before .before .before .match .keys1 in
+    let p = @start .pre in
+    let v = @start .args in
+    let e = @match .keys1 in
     put-as Class e
-    (at-end (c .before .before .put-class .ensures .1) (c .before .before .put-class .ensures .0)
+    (at-end (@put-class .ensures .1) (@put-class .ensures .0)
     (class-line (v .text .now) (v .work .now) (v .p) (more (drop (v .r) (v .text .now))) (p .0) (room-as Class e (p .2))))
 
 returns-2 : tie.Need-returns-2
 unfolding kindNumber isKind isStatement namesAfter aboveAfter
 returns-2 c =
-    let p = c .before .before .before .before .pre in
-    let v = c .before .before .before .before .args in
-    put-as Main (last-kind (v .kind) (p .1) (c .before .match .rest .1))
-    (at-end refl (c .put-main .ensures) (main-line (v .text .now) (v .work .now) (v .p) (more (drop (v .r) (v .text .now)))))
+    let p = @start .pre in
+    let v = @start .args in
+    put-as Main (last-kind (v .kind) (p .1) (@match .rest .1))
+    (at-end refl (@put-main .ensures) (main-line (v .text .now) (v .work .now) (v .p) (more (drop (v .r) (v .text .now)))))
 
 pub put-declaration-spec : {M : Type 1} → statement M
 put-declaration-spec =
