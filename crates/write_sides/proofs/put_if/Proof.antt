@@ -43,66 +43,44 @@ begun-by-requires c κs = search needs
 
 resolve-atom-requires : tie.Need-resolve-atom-requires
 resolve-atom-requires c κs =
-    let start = @start in
-    let at-span-after = @span-after in
-    let at-span-after2 = @span-after2 in
-    let at-span-after3 = @span-after3 in
-    let at-name-in = @name-in in
-    let at-name-in2 = @name-in2 in
-    let at-byte-at = @byte-at in
-    let at-begun-by = @begun-by in
+    let start = c .before .before .before .before .before .before .before .before .before .before .before .before .before in
+    let at-span-after = c .before .before .before .before .before .before .before .before .before .before .span-after in
+    let at-span-after2 = c .before .before .before .before .before .before .before .before .span-after2 in
+    let at-span-after3 = c .before .before .before .before .before .before .span-after3 in
+    let at-name-in = c .before .before .before .before .before .name-in in
+    let at-name-in2 = c .before .before .before .before .name-in2 in
+    let at-byte-at = c .before .before .byte-at in
+    let at-begun-by = c .before .begun-by in
     let v = start .args in
     let p = start .pre in
     let word = if-word (v .text .now) (v .work .now) (v .c) (v .r) (v .i) (v .n) (v .line) (p .0) (p .2) (p .1) (at-span-after .ensures) (at-name-in .ensures) (at-begun-by .ensures ∙ ap begunBy (at-byte-at .ensures)) in (
       p .0,
       if-atom (v .text .now) (v .work .now) (v .c) (v .r) (v .i) (v .n) (v .line) (p .0) (p .2) (p .1) (at-span-after .ensures) (at-span-after2
-          .ensures) (at-span-after3 .ensures) word (at-name-in2 .ensures) (@name-in3 .ensures),
+          .ensures) (at-span-after3 .ensures) word (at-name-in2 .ensures) (c .before .before .before .name-in3 .ensures),
     )
 
 enum-known-q : tie.Need-enum-known-q
 enum-known-q c = search needs
 
-enum-told : tie.Need-enum-told
-enum-told c = search needs
-
-same-length : tie.Need-same-length
-same-length c = search needs
-
-returns : tie.Need-returns
-returns c =
-    let start = @start in
-    let at-span-after = @span-after in
-    let at-span-after2 = @span-after2 in
-    let at-span-after3 = @span-after3 in
-    let at-name-in = @name-in in
-    let at-name-in2 = @name-in2 in
-    let at-name-in3 = @name-in3 in
-    let at-resolve-atom = @resolve-atom in
-    let at-byte-at = @byte-at in
-    let at-begun-by = @begun-by in
-    let v = start .args in
-    let p = start .pre in
-    let word = if-word (v .text .now) (v .work .now) (v .c) (v .r) (v .i) (v .n) (v .line) (p .0) (p .2) (p .1) (at-span-after .ensures) (at-name-in .ensures) (at-begun-by .ensures ∙ ap begunBy (at-byte-at .ensures)) in
-    if-bad (v .text .now) (v .work .now) (v .c) (v .r) (v .i) (v .n) (v .line) (p .0) (p .2) (p .1) (at-span-after .ensures) (at-span-after2 .ensures)
-    (at-span-after3 .ensures) word (at-name-in2 .ensures) (at-name-in3 .ensures) (at-resolve-atom .result) (@q .given .1)
-    (at-resolve-atom .ensures)
+enum-known-q-2 : tie.Need-enum-known-q-2
+enum-known-q-2 c = search needs
 
 row-requires : tie.Need-row-requires
 row-requires c κs = search needs
 
 put-atom-requires : tie.Need-put-atom-requires
 put-atom-requires c κs =
-    let start = @start in
-    let at-span-after = @span-after in
-    let at-span-after2 = @span-after2 in
-    let at-span-after3 = @span-after3 in
-    let at-name-in = @name-in in
-    let at-name-in2 = @name-in2 in
-    let at-name-in3 = @name-in3 in
-    let at-resolve-atom = @resolve-atom in
-    let at-q = @q in
-    let at-byte-at = @byte-at in
-    let at-begun-by = @begun-by in
+    let start = c .before .before .before .before .before .before .before .before .before .before .before .before .before .before .before .before .before .before .before in
+    let at-span-after = c .before .before .before .before .before .before .before .before .before .before .before .before .before .before .before .before .span-after in
+    let at-span-after2 = c .before .before .before .before .before .before .before .before .before .before .before .before .before .before .span-after2 in
+    let at-span-after3 = c .before .before .before .before .before .before .before .before .before .before .before .before .span-after3 in
+    let at-name-in = c .before .before .before .before .before .before .before .before .before .before .before .name-in in
+    let at-name-in2 = c .before .before .before .before .before .before .before .before .before .before .name-in2 in
+    let at-name-in3 = c .before .before .before .before .before .before .before .before .before .name-in3 in
+    let at-resolve-atom = c .before .before .before .before .before .resolve-atom in
+    let at-q = c .before .before .before .q2 in
+    let at-byte-at = c .before .before .before .before .before .before .before .before .byte-at in
+    let at-begun-by = c .before .before .before .before .before .before .before .begun-by in
     let v = start .args in
     let p = start .pre in
     let word = if-word (v .text .now) (v .work .now) (v .c) (v .r) (v .i) (v .n) (v .line) (p .0) (p .2) (p .1) (at-span-after .ensures) (at-name-in .ensures) (at-begun-by .ensures ∙ ap begunBy (at-byte-at .ensures)) in
@@ -113,19 +91,19 @@ put-atom-requires c κs =
 
 put-row-requires : tie.Need-put-row-requires
 put-row-requires c κs =
-    let start = @start in
-    let at-span-after = @span-after in
-    let at-span-after2 = @span-after2 in
-    let at-span-after3 = @span-after3 in
-    let at-name-in = @name-in in
-    let at-name-in2 = @name-in2 in
-    let at-name-in3 = @name-in3 in
-    let at-resolve-atom = @resolve-atom in
-    let at-q = @q in
-    let at-row = @row in
-    let at-put-atom = @put-atom in
-    let at-byte-at = @byte-at in
-    let at-begun-by = @begun-by in
+    let start = c .before .before .before .before .before .before .before .before .before .before .before .before .before .before .before .before .before .before .before .before .before .before .before in
+    let at-span-after = c .before .before .before .before .before .before .before .before .before .before .before .before .before .before .before .before .before .before .before .before .span-after in
+    let at-span-after2 = c .before .before .before .before .before .before .before .before .before .before .before .before .before .before .before .before .before .before .span-after2 in
+    let at-span-after3 = c .before .before .before .before .before .before .before .before .before .before .before .before .before .before .before .before .span-after3 in
+    let at-name-in = c .before .before .before .before .before .before .before .before .before .before .before .before .before .before .before .name-in in
+    let at-name-in2 = c .before .before .before .before .before .before .before .before .before .before .before .before .before .before .name-in2 in
+    let at-name-in3 = c .before .before .before .before .before .before .before .before .before .before .before .before .before .name-in3 in
+    let at-resolve-atom = c .before .before .before .before .before .before .before .before .before .resolve-atom in
+    let at-q = c .before .before .before .before .before .before .before .q2 in
+    let at-row = c .before .before .before .before .before .row in
+    let at-put-atom = c .before .before .before .put-atom in
+    let at-byte-at = c .before .before .before .before .before .before .before .before .before .before .before .before .byte-at in
+    let at-begun-by = c .before .before .before .before .before .before .before .before .before .before .before .begun-by in
     let v = start .args in
     let p = start .pre in
     let word = if-word (v .text .now) (v .work .now) (v .c) (v .r) (v .i) (v .n) (v .line) (p .0) (p .2) (p .1) (at-span-after .ensures) (at-name-in .ensures) (at-begun-by .ensures ∙ ap begunBy (at-byte-at .ensures)) in
@@ -141,30 +119,52 @@ put-row-requires c κs =
       ),
     )
 
-add-t20 : tie.Need-add-t20
-add-t20 c =
-    let start = @start in
+add-t31 : tie.Need-add-t31
+add-t31 c =
+    let start = c .before .before .before .before .before .before .before .before .before .before .before .before .before .before .before .before .before .before .before .before .before .before .before .before .before .before in
     omega (arith, start .pre .1 .room)
+
+same-length : tie.Need-same-length
+same-length c = search needs
+
+returns : tie.Need-returns
+returns c =
+    let start = c .before .before .before .before .before .before .before .before .before .before .before .before .before .before .before .before .before in
+    let at-span-after = c .before .before .before .before .before .before .before .before .before .before .before .before .before .before .span-after in
+    let at-span-after2 = c .before .before .before .before .before .before .before .before .before .before .before .before .span-after2 in
+    let at-span-after3 = c .before .before .before .before .before .before .before .before .before .before .span-after3 in
+    let at-name-in = c .before .before .before .before .before .before .before .before .before .name-in in
+    let at-name-in2 = c .before .before .before .before .before .before .before .before .name-in2 in
+    let at-name-in3 = c .before .before .before .before .before .before .before .name-in3 in
+    let at-resolve-atom = c .before .before .before .resolve-atom in
+    let at-byte-at = c .before .before .before .before .before .before .byte-at in
+    let at-begun-by = c .before .before .before .before .before .begun-by in
+    let v = start .args in
+    let p = start .pre in
+    let word = if-word (v .text .now) (v .work .now) (v .c) (v .r) (v .i) (v .n) (v .line) (p .0) (p .2) (p .1) (at-span-after .ensures) (at-name-in .ensures) (at-begun-by .ensures ∙ ap begunBy (at-byte-at .ensures)) in
+    if-bad (v .text .now) (v .work .now) (v .c) (v .r) (v .i) (v .n) (v .line) (p .0) (p .2) (p .1) (at-span-after .ensures) (at-span-after2 .ensures)
+    (at-span-after3 .ensures) word (at-name-in2 .ensures) (at-name-in3 .ensures) (at-resolve-atom .result) (c .before .q .given .1)
+    (at-resolve-atom .ensures)
 
 same-length-2 : tie.Need-same-length-2
 same-length-2 c = search needs
 
 returns-2 : tie.Need-returns-2
 returns-2 c =
-    let start = @start in
-    let at-span-after = @span-after in
-    let at-span-after2 = @span-after2 in
-    let at-span-after3 = @span-after3 in
-    let at-name-in = @name-in in
-    let at-name-in2 = @name-in2 in
-    let at-name-in3 = @name-in3 in
-    let at-resolve-atom = @resolve-atom in
-    let at-q = @q in
-    let at-row = @row in
-    let at-put-atom = @put-atom in
-    let at-put-row = @put-row in
-    let at-byte-at = @byte-at in
-    let at-begun-by = @begun-by in
+    let start = c .before .before .before .before .before .before .before .before .before .before .before .before .before .before .before .before .before .before .before .before .before .before .before .before .before .before in
+    let at-span-after = c .before .before .before .before .before .before .before .before .before .before .before .before .before .before .before .before .before .before .before .before .before .before .before .span-after in
+    let at-span-after2 = c .before .before .before .before .before .before .before .before .before .before .before .before .before .before .before .before .before .before .before .before .before .span-after2 in
+    let at-span-after3 = c .before .before .before .before .before .before .before .before .before .before .before .before .before .before .before .before .before .before .before .span-after3 in
+    let at-name-in = c .before .before .before .before .before .before .before .before .before .before .before .before .before .before .before .before .before .before .name-in in
+    let at-name-in2 = c .before .before .before .before .before .before .before .before .before .before .before .before .before .before .before .before .before .name-in2 in
+    let at-name-in3 = c .before .before .before .before .before .before .before .before .before .before .before .before .before .before .before .before .name-in3 in
+    let at-resolve-atom = c .before .before .before .before .before .before .before .before .before .before .before .before .resolve-atom in
+    let at-q = c .before .before .before .before .before .before .before .before .before .before .q2 in
+    let at-row = c .before .before .before .before .before .before .before .before .row in
+    let at-put-atom = c .before .before .before .before .before .before .put-atom in
+    let at-put-row = c .before .before .put-row in
+    let at-byte-at = c .before .before .before .before .before .before .before .before .before .before .before .before .before .before .before .byte-at in
+    let at-begun-by = c .before .before .before .before .before .before .before .before .before .before .before .before .before .before .begun-by in
     let v = start .args in
     let p = start .pre in
     let word = if-word (v .text .now) (v .work .now) (v .c) (v .r) (v .i) (v .n) (v .line) (p .0) (p .2) (p .1) (at-span-after .ensures) (at-name-in .ensures) (at-begun-by .ensures ∙ ap begunBy (at-byte-at .ensures)) in
@@ -188,12 +188,12 @@ put-if-spec =
     begun-by-requires
     resolve-atom-requires
     enum-known-q
-    enum-told
-    same-length
-    returns
+    enum-known-q-2
     row-requires
     put-atom-requires
     put-row-requires
-    add-t20
+    add-t31
+    same-length
+    returns
     same-length-2
     returns-2)

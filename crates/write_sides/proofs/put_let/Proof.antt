@@ -34,12 +34,12 @@ name-in-requires-2 c κs = search needs
 
 look-requires : tie.Need-look-requires
 look-requires c κs =
-    let start = @start in
-    let at-span-after = @span-after in
-    let at-span-after2 = @span-after2 in
+    let start = c .before .before .before .before .before .before .before .before .before .before in
+    let at-span-after = c .before .before .before .before .before .before .before .span-after in
+    let at-span-after2 = c .before .before .before .before .before .span-after2 in
     let v = start .args in
     let p = start .pre in
-    let e = @name-in2 .ensures ∙ second (at-span-after .ensures) (at-span-after2 .ensures) in (
+    let e = c .name-in2 .ensures ∙ second (at-span-after .ensures) (at-span-after2 .ensures) in (
       p .0 .whole,
       p .0 .fits,
       subst (λ z. isExpr z ≡ true) (sym e) (let-formed (v .text .now) (v .work .now) (v .c) (v .r) (v .i) (v .n) (v .line) (p
@@ -47,46 +47,45 @@ look-requires c κs =
     )
 
 judge-let-requires : tie.Need-judge-let-requires
-judge-let-requires c κs = search needs
+judge-let-requires c κs = (c .before .before .before .before .before .before .before .before .before .before .before .before .pre .0 .whole, c .before .before .before .before .variable .ensures .within)
 
 enum-known-v : tie.Need-enum-known-v
 enum-known-v c = search needs
-
-enum-told : tie.Need-enum-told
-enum-told c = search needs
 
 same-length : tie.Need-same-length
 same-length c = search needs
 
 returns : tie.Need-returns
 returns c =
-    let start = @start in
-    let at-span-after = @span-after in
-    let at-span-after2 = @span-after2 in
-    let at-name-in = @name-in in
-    let at-variable = @variable in
-    let at-name-in2 = @name-in2 in
-    let at-look = @look in
+    let start = c .before .before .before .before .before .before .before .before .before .before .before .before .before .before .before .before in
+    let at-span-after = c .before .before .before .before .before .before .before .before .before .before .before .before .before .span-after in
+    let at-span-after2 = c .before .before .before .before .before .before .before .before .before .before .before .span-after2 in
+    let at-name-in = c .before .before .before .before .before .before .before .before .before .name-in in
+    let at-variable = c .before .before .before .before .before .before .before .before .variable in
+    let at-name-in2 = c .before .before .before .before .before .before .name-in2 in
+    let at-look = c .before .before .before .before .before .look in
     let v = start .args in
     let p = start .pre in
     let-bad (v .text .now) (v .work .now) (v .c) (v .r) (v .i) (v .n) (v .line) (p .0) (p .2) (p .1) (at-span-after .ensures) (at-span-after2
-    .ensures) (at-name-in .ensures) (at-name-in2 .ensures) (at-variable .ensures) (at-look .ensures) (@judge-let .ensures) (not-true _ (c
-    .if1 .taken))
+    .ensures) (at-name-in .ensures) (at-name-in2 .ensures) (at-variable .ensures) (at-look .ensures) (c .before .before .before .judge-let .ensures) (c .before .v .given .1)
+
+enum-told : tie.Need-enum-told
+enum-told c = search needs
 
 row-requires : tie.Need-row-requires
 row-requires c κs = search needs
 
 put-atom-requires : tie.Need-put-atom-requires
 put-atom-requires c κs =
-    let start = @start in
-    let at-span-after = @span-after in
-    let at-span-after2 = @span-after2 in
-    let at-name-in = @name-in in
-    let at-variable = @variable in
-    let at-name-in2 = @name-in2 in
-    let at-look = @look in
-    let at-judge-let = @judge-let in
-    let at-told = @enum-told in
+    let start = c .before .before .before .before .before .before .before .before .before .before .before .before .before .before .before .before .before in
+    let at-span-after = c .before .before .before .before .before .before .before .before .before .before .before .before .before .before .span-after in
+    let at-span-after2 = c .before .before .before .before .before .before .before .before .before .before .before .before .span-after2 in
+    let at-name-in = c .before .before .before .before .before .before .before .before .before .before .name-in in
+    let at-variable = c .before .before .before .before .before .before .before .before .before .variable in
+    let at-name-in2 = c .before .before .before .before .before .before .before .name-in2 in
+    let at-look = c .before .before .before .before .before .before .look in
+    let at-judge-let = c .before .before .before .before .judge-let in
+    let at-told = c .before .before .enum-told in
     let v = start .args in
     let p = start .pre in
     let o = let-atom (v .text .now) (v .work .now) (v .c) (v .r) (v .i) (v .n) (v .line) (p .0) (p .2) (p .1) (at-span-after .ensures) (at-span-after2
@@ -95,17 +94,17 @@ put-atom-requires c κs =
 
 put-row-requires : tie.Need-put-row-requires
 put-row-requires c κs =
-    let start = @start in
-    let at-span-after = @span-after in
-    let at-span-after2 = @span-after2 in
-    let at-name-in = @name-in in
-    let at-variable = @variable in
-    let at-name-in2 = @name-in2 in
-    let at-look = @look in
-    let at-judge-let = @judge-let in
-    let at-told = @enum-told in
-    let at-row = @row in
-    let at-put-atom = @put-atom in
+    let start = c .before .before .before .before .before .before .before .before .before .before .before .before .before .before .before .before .before .before .before .before .before in
+    let at-span-after = c .before .before .before .before .before .before .before .before .before .before .before .before .before .before .before .before .before .before .span-after in
+    let at-span-after2 = c .before .before .before .before .before .before .before .before .before .before .before .before .before .before .before .before .span-after2 in
+    let at-name-in = c .before .before .before .before .before .before .before .before .before .before .before .before .before .before .name-in in
+    let at-variable = c .before .before .before .before .before .before .before .before .before .before .before .before .before .variable in
+    let at-name-in2 = c .before .before .before .before .before .before .before .before .before .before .before .name-in2 in
+    let at-look = c .before .before .before .before .before .before .before .before .before .before .look in
+    let at-judge-let = c .before .before .before .before .before .before .before .before .judge-let in
+    let at-told = c .before .before .before .before .before .before .enum-told in
+    let at-row = c .before .before .before .before .before .row in
+    let at-put-atom = c .before .before .before .put-atom in
     let v = start .args in
     let p = start .pre in
     let o = let-atom (v .text .now) (v .work .now) (v .c) (v .r) (v .i) (v .n) (v .line) (p .0) (p .2) (p .1) (at-span-after .ensures) (at-span-after2
@@ -121,9 +120,9 @@ put-row-requires c κs =
       ),
     )
 
-add-t14 : tie.Need-add-t14
-add-t14 c =
-    let start = @start in
+add-t16 : tie.Need-add-t16
+add-t16 c =
+    let start = c .before .before .before .before .before .before .before .before .before .before .before .before .before .before .before .before .before .before .before .before .before .before .before .before in
     omega (arith, start .pre .1 .room)
 
 same-length-2 : tie.Need-same-length-2
@@ -131,18 +130,18 @@ same-length-2 c = search needs
 
 returns-2 : tie.Need-returns-2
 returns-2 c =
-    let start = @start in
-    let at-span-after = @span-after in
-    let at-span-after2 = @span-after2 in
-    let at-name-in = @name-in in
-    let at-variable = @variable in
-    let at-name-in2 = @name-in2 in
-    let at-look = @look in
-    let at-judge-let = @judge-let in
-    let at-told = @enum-told in
-    let at-row = @row in
-    let at-put-atom = @put-atom in
-    let at-put-row = @put-row in
+    let start = c .before .before .before .before .before .before .before .before .before .before .before .before .before .before .before .before .before .before .before .before .before .before .before .before in
+    let at-span-after = c .before .before .before .before .before .before .before .before .before .before .before .before .before .before .before .before .before .before .before .before .before .span-after in
+    let at-span-after2 = c .before .before .before .before .before .before .before .before .before .before .before .before .before .before .before .before .before .before .before .span-after2 in
+    let at-name-in = c .before .before .before .before .before .before .before .before .before .before .before .before .before .before .before .before .before .name-in in
+    let at-variable = c .before .before .before .before .before .before .before .before .before .before .before .before .before .before .before .before .variable in
+    let at-name-in2 = c .before .before .before .before .before .before .before .before .before .before .before .before .before .before .name-in2 in
+    let at-look = c .before .before .before .before .before .before .before .before .before .before .before .before .before .look in
+    let at-judge-let = c .before .before .before .before .before .before .before .before .before .before .before .judge-let in
+    let at-told = c .before .before .before .before .before .before .before .before .before .enum-told in
+    let at-row = c .before .before .before .before .before .before .before .before .row in
+    let at-put-atom = c .before .before .before .before .before .before .put-atom in
+    let at-put-row = c .before .before .put-row in
     let v = start .args in
     let p = start .pre in
     let-done (v .text .now) (v .work .now) (v .c) (v .r) (v .i) (v .n) (v .line) (p .0) (p .2) (p .1) (at-span-after .ensures) (at-span-after2
@@ -160,11 +159,13 @@ put-let-spec =
     name-in-requires-2
     look-requires
     judge-let-requires
+    enum-known-v
     same-length
     returns
+    enum-told
     row-requires
     put-atom-requires
     put-row-requires
-    add-t14
+    add-t16
     same-length-2
     returns-2)
