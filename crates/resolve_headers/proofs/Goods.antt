@@ -164,7 +164,7 @@ module _ (t w : List ℕ) (p : Pass) (ws : List Name) (b : Bool) where
       && (isType Γ (x .is j .takes) && isNew (name j) variables))))
 
 -- The line of the kind k, which has the number n, is tried.
-module _ (t w : List ℕ) (p : Pass) (r : ℕ) (k : Kind) {n : ℕ} (e : n ≡ kindNumber k) {b : Bool} (is : Judged t w p (more (drop r t)) b k) where
+module _ (t w : List ℕ) (p : Pass) (r : ℕ) (k : Kind) {n : ℕ} (e : n ≡ kindNumber k) (b : Bool) (is : Judged t w p (more (drop r t)) b k) where
   judged-here : judgedHere t w p (lineAfter t r n) ≡ named b
   unfolding judgedHere
   judged-here = ap (judgedHere t w p) (line-is k e) ∙ is

@@ -22,12 +22,12 @@ use Rattle.resolve_headers.proofs.put_method.Tie as tie
 
 sub-owner : tie.Need-sub-owner
 unfolding kindNumber
-sub-owner c = omega (arith, room-as Method refl (@start .pre .3) .method refl .0)
+sub-owner c = omega (arith, room-as Method refl (c .before .before .before .before .before .before .pre .3) .method refl .0)
 
 method-row-requires : tie.Need-method-row-requires
 method-row-requires c κs =
-    let p = @start .pre in
-    let v = @start .args in
+    let p = c .before .before .before .before .before .before .pre in
+    let v = c .before .before .before .before .before .before .args in
     let m = method-names (more (drop (v .r) (v .text .now))) (p .2) in
     (p .0 .text, p .1, omega (arith, p .0 .above .classes), m .0, m .1, m .2)
 
@@ -46,42 +46,42 @@ same-length c = search needs
 returns : tie.Need-returns
 unfolding kindNumber
 returns c =
-    let start = @start in
-    let at-method-row = @method-row in
-    let at-span-after = @span-after in
+    let start = c .before .before .before .before .before .before .before .before .before .before .before .before .before in
+    let at-method-row = c .before .before .before .before .before .before .method-row in
+    let at-span-after = c .before .before .before .span-after in
     let p = start .pre in
     let v = start .args in
     let t = v .text .now in
     let m = at-method-row .ensures in
     let good = method-test t (v .work .now) (v .p) (more (drop (v .r) t)) _ (at-span-after .result) m (at-span-after .ensures .name ∙ m .parameter) (p
-    .2) (@may-add-method .ensures) in
-    put-bad t (v .work .now) (v .p) (v .r) Method refl good (not-true _ (@if1 .taken))
+    .2) (c .before .may-add-method .ensures) in
+    put-bad t (v .work .now) (v .p) (v .r) Method refl (c .before .may-add-method .result) good (not-true _ (c .if1 .taken))
 
 name-at-requires : tie.Need-name-at-requires
 name-at-requires c κs =
-    let p = @start .pre in
+    let p = c .before .before .before .before .before .before .before .before .before .before .before .before .before .before .pre in
     (p .0 .whole, omega (arith, p .0 .above .classes))
 
 after-requires : tie.Need-after-requires
 after-requires c κs =
-    let start = @start in
+    let start = c .before .before .before .before .before .before .before .before .before .before .before .before .before .before .before .before in
     omega (arith, start .pre .0 .above .methods)
 
 put-method-row-requires : tie.Need-put-method-row-requires
 unfolding kindNumber
 put-method-row-requires c κs =
-    let p = @start .pre in
-    (p .0 .whole, (omega (arith, @after .ensures, room-as Method refl (p .3) .method refl .1 .0, p .0 .names .methods), omega (arith, p .4 .rows)))
+    let p = c .before .before .before .before .before .before .before .before .before .before .before .before .before .before .before .before .before .pre in
+    (p .0 .whole, (omega (arith, c .after .ensures, room-as Method refl (p .3) .method refl .1 .0, p .0 .names .methods), omega (arith, p .4 .rows)))
 
 put-block-requires : tie.Need-put-block-requires
 unfolding kindNumber
 put-block-requires c κs =
-    let start = @start in
-    let at-method-row = @method-row in
-    let at-span-after = @span-after in
-    let at-name-at = @name-at in
-    let at-after = @after in
-    let at-put-method-row = @put-method-row in
+    let start = c .before .before .before .before .before .before .before .before .before .before .before .before .before .before .before .before .before .before .before .before .before in
+    let at-method-row = c .before .before .before .before .before .before .before .before .before .before .before .before .before .before .method-row in
+    let at-span-after = c .before .before .before .before .before .before .before .before .before .before .before .span-after in
+    let at-name-at = c .before .before .before .before .before .before .name-at in
+    let at-after = c .before .before .before .before .after in
+    let at-put-method-row = c .before .before .before .put-method-row in
     let p = start .pre in
     let v = start .args in
     let m = at-method-row .ensures in
@@ -102,12 +102,12 @@ in-method-requires c κs = search needs
 
 with-method-requires : tie.Need-with-method-requires
 with-method-requires c κs =
-    let start = @start in
+    let start = c .before .before .before .before .before .before .before .before .before .before .before .before .before .before .before .before .before .before .before .before .before .before .before .before .before in
     start .pre .0 .above
 
 moved-requires : tie.Need-moved-requires
 moved-requires c κs =
-    let start = @start in
+    let start = c .before .before .before .before .before .before .before .before .before .before .before .before .before .before .before .before .before .before .before .before .before .before .before .before .before .before in
     start .pre .3 .line
 
 same-length-2 : tie.Need-same-length-2
@@ -116,16 +116,16 @@ same-length-2 c = search needs
 returns-2 : tie.Need-returns-2
 unfolding namesAfter isKind isStatement kindNumber
 returns-2 c =
-    let start = @start in
-    let at-method-row = @method-row in
-    let at-span-after = @span-after in
-    let at-may-add-method = @may-add-method in
-    let at-if1 = @if1 in
-    let at-name-at = @name-at in
-    let at-after = @after in
-    let at-put-method-row = @put-method-row in
-    let at-put-block = @put-block in
-    let at-in-method = @in-method in
+    let start = c .before .before .before .before .before .before .before .before .before .before .before .before .before .before .before .before .before .before .before .before .before .before .before .before .before .before .before in
+    let at-method-row = c .before .before .before .before .before .before .before .before .before .before .before .before .before .before .before .before .before .before .before .before .method-row in
+    let at-span-after = c .before .before .before .before .before .before .before .before .before .before .before .before .before .before .before .before .before .span-after in
+    let at-may-add-method = c .before .before .before .before .before .before .before .before .before .before .before .before .before .before .before .may-add-method in
+    let at-if1 = c .before .before .before .before .before .before .before .before .before .before .before .before .before .before .if1 in
+    let at-name-at = c .before .before .before .before .before .before .before .before .before .before .before .before .name-at in
+    let at-after = c .before .before .before .before .before .before .before .before .before .before .after in
+    let at-put-method-row = c .before .before .before .before .before .before .before .before .before .put-method-row in
+    let at-put-block = c .before .before .before .before .before .put-block in
+    let at-in-method = c .before .before .in-method in
     let p = start .pre in
     let v = start .args in
     let t = v .text .now in
@@ -139,9 +139,9 @@ returns-2 c =
     let room = room-as Method refl (p .3) in
     let last : v .p .above .classes ≡ suc (v .p .above .classes - 1) = omega (arith, room .method refl .0) in
     let good = method-test t w (v .p) ws _ (at-span-after .result) m name (p .2) (at-may-add-method .ensures) in
-    put-on t w (v .p) (v .r) Method refl good (not-false _ (at-if1 .left)) (at-end (at-put-block .ensures ∙ ap (λ u. putBlock t u (at-name-at .result)
-    (at-method-row .result) (at-span-after .result)) (at-put-method-row .ensures ∙ (λ j. putMethod w (at-after .ensures j) (v .p .rows)))) (@moved
-    .ensures ∙ (λ j. moved (v .p) (at-in-method .ensures j) (@with-method .ensures j) (v .p .main))) (method-line t w (v .p) ws (v .p .above
+    put-on t w (v .p) (v .r) Method refl (c .before .before .before .before .before .before .before .before .before .before .before .before .before .before .before .may-add-method .result) good (not-false _ (at-if1 .left)) (at-end (at-put-block .ensures ∙ ap (λ u. putBlock t u (at-name-at .result)
+    (at-method-row .result) (at-span-after .result)) (at-put-method-row .ensures ∙ (λ j. putMethod w (at-after .ensures j) (v .p .rows)))) (c .moved
+    .ensures ∙ (λ j. moved (v .p) (at-in-method .ensures j) (c .before .with-method .ensures j) (v .p .main))) (method-line t w (v .p) ws (v .p .above
     .classes - 1) (at-name-at .result) (at-span-after .result) (at-method-row .result) (p .0) room (p .4) last (k .0) (k .1) m name s))
 
 pub put-method-spec : {M : Type 1} → statement M

@@ -32,27 +32,27 @@ same-length c = search needs
 returns : tie.Need-returns
 unfolding kindNumber
 returns c =
-    let p = @start .pre in
-    let v = @start .args in
-    let x = @span-after .ensures in
-    let y = @span-after2 .ensures in
+    let p = c .before .before .before .before .before .before .before .before .before .before .pre in
+    let v = c .before .before .before .before .before .before .before .before .before .before .args in
+    let x = c .before .before .before .before .before .span-after .ensures in
+    let y = c .before .before .before .span-after2 .ensures in
     let is =
-    var-test (v .text .now) (v .work .now) (v .p) (more (drop (v .r) (v .text .now))) _ (@span-after .result) (@span-after2 .result)
-    (x .name) (second x y) (p .2) (@may-declare .ensures) in
-    put-bad (v .text .now) (v .work .now) (v .p) (v .r) Var refl is (not-true _ (@if1 .taken))
+    var-test (v .text .now) (v .work .now) (v .p) (more (drop (v .r) (v .text .now))) _ (c .before .before .before .before .before .span-after .result) (c .before .before .before .span-after2 .result)
+    (x .name) (second x y) (p .2) (c .before .may-declare .ensures) in
+    put-bad (v .text .now) (v .work .now) (v .p) (v .r) Var refl (c .before .may-declare .result) is (not-true _ (c .if1 .taken))
 
 put-local-requires : tie.Need-put-local-requires
 unfolding kindNumber
 put-local-requires c κs =
-    let p = @start .pre in
-    let v = @start .args in
+    let p = c .before .before .before .before .before .before .before .before .before .before .before .pre in
+    let v = c .before .before .before .before .before .before .before .before .before .before .before .args in
     let t = v .text .now in
-    let x = @span-after .ensures in
-    let y = @span-after2 .ensures in
+    let x = c .before .before .before .before .before .before .span-after .ensures in
+    let y = c .before .before .before .before .span-after2 .ensures in
     let n = second x y in
     let m = var-names (more (drop (v .r) t)) (p .2) in
-    let g = span-fits t (@span-after .result) (p .0 .text) (x .high) (ap isName (x .name) ∙ m .0) in
-    let s = span-fits t (@span-after2 .result) (p .0 .text) (y .high) (ap isName n ∙ m .1) in
+    let g = span-fits t (c .before .before .before .before .before .before .span-after .result) (p .0 .text) (x .high) (ap isName (x .name) ∙ m .0) in
+    let s = span-fits t (c .before .before .before .before .span-after2 .result) (p .0 .text) (y .high) (ap isName n ∙ m .1) in
     (p .0 .whole, room-as Var refl (p .3) .local refl, s, g)
 
 moved-requires : tie.Need-moved-requires
@@ -64,22 +64,22 @@ same-length-2 c = search needs
 returns-2 : tie.Need-returns-2
 unfolding namesAfter aboveAfter isKind isStatement kindNumber
 returns-2 c =
-    let p = @start .pre in
-    let v = @start .args in
+    let p = c .before .before .before .before .before .before .before .before .before .before .before .before .before .before .before .pre in
+    let v = c .before .before .before .before .before .before .before .before .before .before .before .before .before .before .before .args in
     let t = v .text .now in
-    let x = @span-after .ensures in
-    let y = @span-after2 .ensures in
+    let x = c .before .before .before .before .before .before .before .before .before .before .span-after .ensures in
+    let y = c .before .before .before .before .before .before .before .before .span-after2 .ensures in
     let n = second x y in
     let m = var-names (more (drop (v .r) t)) (p .2) in
-    let g = span-fits t (@span-after .result) (p .0 .text) (x .high) (ap isName (x .name) ∙ m .0) in
-    let s = span-fits t (@span-after2 .result) (p .0 .text) (y .high) (ap isName n ∙ m .1) in
+    let g = span-fits t (c .before .before .before .before .before .before .before .before .before .before .span-after .result) (p .0 .text) (x .high) (ap isName (x .name) ∙ m .0) in
+    let s = span-fits t (c .before .before .before .before .before .before .before .before .span-after2 .result) (p .0 .text) (y .high) (ap isName n ∙ m .1) in
     let is =
-    var-test t (v .work .now) (v .p) (more (drop (v .r) t)) _ (@span-after .result) (@span-after2 .result)
-    (x .name) n (p .2) (@may-declare .ensures) in
-    put-on t (v .work .now) (v .p) (v .r) Var refl is (not-false _ (@if1 .left))
-    (at-end (@put-local .ensures .1)
-    (@moved .ensures ∙ (λ j. moved (v .p) (@put-local .ensures .0 j) (v .p .above) (v .p .main)))
-    (var-line t (v .work .now) (v .p) (more (drop (v .r) t)) (@span-after2 .result) (@span-after .result) (p .0) (room-as Var refl (p .3)) (x .name) n s g))
+    var-test t (v .work .now) (v .p) (more (drop (v .r) t)) _ (c .before .before .before .before .before .before .before .before .before .before .span-after .result) (c .before .before .before .before .before .before .before .before .span-after2 .result)
+    (x .name) n (p .2) (c .before .before .before .before .before .before .may-declare .ensures) in
+    put-on t (v .work .now) (v .p) (v .r) Var refl (c .before .before .before .before .before .before .may-declare .result) is (not-false _ (c .before .before .before .before .before .if1 .left))
+    (at-end (c .before .before .before .put-local .ensures .1)
+    (c .moved .ensures ∙ (λ j. moved (v .p) (c .before .before .before .put-local .ensures .0 j) (v .p .above) (v .p .main)))
+    (var-line t (v .work .now) (v .p) (more (drop (v .r) t)) (c .before .before .before .before .before .before .before .before .span-after2 .result) (c .before .before .before .before .before .before .before .before .before .before .span-after .result) (p .0) (room-as Var refl (p .3)) (x .name) n s g))
 
 pub put-var-spec : {M : Type 1} → statement M
 put-var-spec =
