@@ -121,9 +121,10 @@ module _ {t w : List ℕ} {p : Pass} {l : Line} {w′ : List ℕ} {y : TriedLine
   unfolding LineTried
   tried-on q i = subst (LineTried t w p l w′) i x
 
-  pub tried-bad : (f : Fault) → y ≡ TriedLine.Bad f → BadLine t w p l w′ f
-  unfolding LineTried
-  tried-bad f i = subst (LineTried t w p l w′) i x
+pub tried-bad :
+    (t w : List ℕ) (p : Pass) (l : Line) (w′ : List ℕ) (y : TriedLine) (f : Fault) → LineTried t w p l w′ y → y ≡ TriedLine.Bad f → BadLine t w p l w′ f
+unfolding LineTried
+tried-bad t w p l w′ y f x i = subst (LineTried t w p l w′) i x
 
 -- a line of the kind K, by its number
 module _ (t w : List ℕ) (p : Pass) {k : ℕ} (r : ℕ) (K : Kind) (e : k ≡ kindNumber K) where

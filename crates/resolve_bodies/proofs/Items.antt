@@ -501,6 +501,7 @@ module _ {t w : List ℕ} {p : Pass} {l : Line} {v : List ℕ} {y : Put} (x : It
   unfolding ItemTried
   item-done m e = subst (ItemTried t w p l v) e x
 
-  pub item-bad : (f : Fault) → y ≡ Put.Bad f → BadLine t w p l v f
-  unfolding ItemTried
-  item-bad f e = subst (ItemTried t w p l v) e x
+pub item-bad :
+    (t w : List ℕ) (p : Pass) (l : Line) (v : List ℕ) (y : Put) (f : Fault) → ItemTried t w p l v y → y ≡ Put.Bad f → BadLine t w p l v f
+unfolding ItemTried
+item-bad t w p l v y f x e = subst (ItemTried t w p l v) e x

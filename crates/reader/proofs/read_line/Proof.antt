@@ -23,7 +23,7 @@ same-length c = search needs
 returns : tie.Need-returns
 unfolding StepIs
 returns c =
-    let z = tried-bad (@try-line .ensures) _ (@t .given .1) in
+    let z = tried-bad _ _ _ _ _ _ _ (@try-line .ensures) (@t .given .1) in
     (bad-resolved _ _ (@start .args .p) _ _ (@fault-refusal .result) (z .0) (@fault-refusal .ensures), z .1)
 
 try-line-requires : tie.Need-try-line-requires

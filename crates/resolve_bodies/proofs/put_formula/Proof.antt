@@ -17,22 +17,22 @@ add-m c = search needs
 
 sub-m : tie.Need-sub-m
 sub-m c =
-    let p = @start .pre in
+    let p = c .before .before .before .before .before .before .before .pre in
     omega (arith, method-room (p .0) (p .1 .0) (p .1 .1))
 
 put-requires-requires : tie.Need-put-requires-requires
 unfolding kindNumber atomLimit
 put-requires-requires c κs =
-    let start = @start in
-    let at-seen = @seen in
-    let p = start .pre in let g = at-seen .ensures in (area-fits (p .0) g, follows-as (p .0) g requires-is (kind-as Grammar.Requires _ (@match .keys1)), omega (arith, method-room (p .0) (p .1 .0) (p .1 .1)))
+    let start = c .before .before .before .before .before .before .before .before .before in
+    let at-seen = c .before .before .before .before .before .seen in
+    let p = start .pre in let g = at-seen .ensures in (area-fits (p .0) g, follows-as (p .0) g requires-is (kind-as Grammar.Requires _ (c .before .match .keys1)), omega (arith, method-room (p .0) (p .1 .0) (p .1 .1)))
 
 put-ensures-requires : tie.Need-put-ensures-requires
 unfolding kindNumber atomLimit
 put-ensures-requires c κs =
-    let start = @start in
-    let at-seen = @seen in
-    let p = start .pre in let g = at-seen .ensures in (area-fits (p .0) g, follows-as (p .0) g ensures-is (kind-as Grammar.Ensures _ (let e : start .args .kind ≡ 5 = omega (arith, p .1 .0, p .1 .1, @match .rest .1) in e)), omega (arith, method-room (p .0) (p .1 .0) (p .1 .1)))
+    let start = c .before .before .before .before .before .before .before .before .before in
+    let at-seen = c .before .before .before .before .before .seen in
+    let p = start .pre in let g = at-seen .ensures in (area-fits (p .0) g, follows-as (p .0) g ensures-is (kind-as Grammar.Ensures _ (let e : start .args .kind ≡ 5 = omega (arith, p .1 .0, p .1 .1, c .before .match .rest .1) in e)), omega (arith, method-room (p .0) (p .1 .0) (p .1 .1)))
 
 same-length : tie.Need-same-length
 same-length c = search needs
@@ -40,10 +40,10 @@ same-length c = search needs
 returns : tie.Need-returns
 unfolding kindNumber
 returns c =
-    let start = @start in
-    let at-seen = @seen in
-    let at-match = @match in
-    let at-put-requires = @put-requires in
+    let start = c .before .before .before .before .before .before .before .before .before .before .before .before in
+    let at-seen = c .before .before .before .before .before .before .before .before .seen in
+    let at-match = c .before .before .before .before .match in
+    let at-put-requires = c .before .before .put-requires in
     let p = start .pre in let g = at-seen .ensures in header-tried (p .0) g requires-is (kind-as Grammar.Requires _ (at-match .keys1)) _ (omega (arith, method-room (p .0) (p .1 .0) (p .1 .1))) _ (at-put-requires .result) (at-put-requires .ensures)
 
 same-length-2 : tie.Need-same-length-2
@@ -52,10 +52,10 @@ same-length-2 c = search needs
 returns-2 : tie.Need-returns-2
 unfolding kindNumber
 returns-2 c =
-    let start = @start in
-    let at-seen = @seen in
-    let at-match = @match in
-    let at-put-ensures = @put-ensures in
+    let start = c .before .before .before .before .before .before .before .before .before .before .before .before in
+    let at-seen = c .before .before .before .before .before .before .before .before .seen in
+    let at-match = c .before .before .before .before .match in
+    let at-put-ensures = c .before .before .put-ensures in
     let p = start .pre in let g = at-seen .ensures in header-tried (p .0) g ensures-is (kind-as Grammar.Ensures _ (let e : start .args .kind ≡ 5 = omega (arith, p .1 .0, p .1 .1, at-match .rest .1) in e)) _ (omega (arith, method-room (p .0) (p .1 .0) (p .1 .1))) _ (at-put-ensures .result) (at-put-ensures .ensures)
 
 pub put-formula-spec : {M : Type 1} → statement M
