@@ -9,13 +9,25 @@ use borrow.Author.Needs.{needs}
 use Rattle.reader.proofs.read_line.Statement.{statement}
 use Rattle.reader.proofs.read_line.Tie as tie
 
-is-declaration-requires : tie.Need-is-declaration-requires
-is-declaration-requires c κs = search needs
+try-line-requires : tie.Need-try-line-requires
+try-line-requires c κs =
+    let x = c .before .before .before .pre in
+    (follows (x .0) (x .1), x .0 .kind, stands-held _ _ _ _ (x .2 .stands))
 
-declare-line-requires : tie.Need-declare-line-requires
-declare-line-requires c κs =
-    let x = @start .pre in
-    (x .0, sym (@is-declaration .ensures) ∙ @if1 .taken, x .1, x .2)
+enum-known-t : tie.Need-enum-known-t
+enum-known-t c = search needs
+
+fault-refusal-requires : tie.Need-fault-refusal-requires
+fault-refusal-requires c κs = search needs
+
+enum-known-t-2 : tie.Need-enum-known-t-2
+enum-known-t-2 c = search needs
+
+take-line-requires : tie.Need-take-line-requires
+take-line-requires c κs =
+    let x = c .before .before .before .before .before .before .before .before .before .before .pre in
+    let z = tried-on (c .before .before .before .before .before .before .try-line .ensures) _ (c .before .before .t2 .given .1) in
+    between (z .1 .0) _ (x .0 .kind) refl (x .2 .flat) (x .2 .stands) (x .0 .ready) (x .1)
 
 same-length : tie.Need-same-length
 same-length c = search needs
@@ -23,62 +35,32 @@ same-length c = search needs
 returns : tie.Need-returns
 unfolding StepIs
 returns c =
-    let z = tried-bad _ _ _ _ _ _ _ (@try-line .ensures) (@t .given .1) in
-    (bad-resolved _ _ (@start .args .p) _ _ (@fault-refusal .result) (z .0) (@fault-refusal .ensures), z .1)
-
-try-line-requires : tie.Need-try-line-requires
-try-line-requires c κs =
-    let x = @start .pre in
-    (follows (x .0) (x .1), x .0 .kind, stands-held _ _ _ _ (x .2 .stands))
-
-enum-told : tie.Need-enum-told
-enum-told c = search needs
-
-why-refused-requires : tie.Need-why-refused-requires
-why-refused-requires c κs =
-    let x = @start .pre in
-    let z = tried-bad (@try-line .ensures) (@enum-told .given .1) in
-    (begins-after (x .0) (z .size), good-kept _ _ (x .0 .ready) (z .names) ∙ z .bad)
-
-enum-known-t : tie.Need-enum-known-t
-enum-known-t c = search needs
-
-take-line-requires : tie.Need-take-line-requires
-take-line-requires c κs =
-    let x = @start .pre in
-    let z = tried-on (@try-line .ensures) _ (@t2 .given .1) in
-    between (z .1 .0) _ (x .0 .kind) refl (x .2 .flat) (x .2 .stands) (x .0 .ready) (x .1)
+    let z = tried-bad _ _ _ _ _ _ _ (c .before .before .before .before .before .before .try-line .ensures) (c .before .before .t .given .1) in
+    (bad-resolved _ _ (c .before .before .before .before .before .before .before .before .before .before .args .p) _ _ (c .fault-refusal .result) (z .0) (c .fault-refusal .ensures), z .1)
 
 same-length-2 : tie.Need-same-length-2
 same-length-2 c = search needs
 
-same-length-3 : tie.Need-same-length-3
-same-length-3 c = search needs
-
 returns-2 : tie.Need-returns-2
 unfolding StepIs
 returns-2 c =
-    let x = @start .pre in
-    let z = tried-on (@try-line .ensures) _ (@t2 .given .1) in
+    let x = c .before .before .before .before .before .before .before .before .before .before .before .pre in
+    let z = tried-on (c .before .before .before .before .before .before .before .try-line .ensures) _ (c .before .before .before .t2 .given .1) in
     record {
-      taken = line-taken (z .1 .0) (x .2) _ (number-of-kind _ (x .0 .kind)) _ (@take-line .ensures);
-      resolved = good-resolved _ _ (@start .args .p) _ (z .0);
+      taken = line-taken (z .1 .0) (x .2) _ (number-of-kind _ (x .0 .kind)) _ (c .take-line .ensures);
+      resolved = good-resolved _ _ (c .before .before .before .before .before .before .before .before .before .before .before .args .p) _ (z .0);
     }
 
 pub read-line-spec : {M : Type 1} → statement M
 read-line-spec =
     tie.close
     (tie.spec
-    is-declaration-requires
-    declare-line-requires
+    try-line-requires
+    enum-known-t
+    fault-refusal-requires
+    enum-known-t-2
+    take-line-requires
     same-length
     returns
-    try-line-requires
-    enum-told
-    why-refused-requires
-    enum-known-t
-    take-line-requires
     same-length-2
-    returns-2
-    same-length-3
-    returns-3)
+    returns-2)
