@@ -3,8 +3,6 @@ mod members;
 
 pub use members::field_gives;
 pub use members::field_number;
-pub use members::field_of;
-pub use members::field_type;
 pub use members::method_number;
 pub use members::owned_field;
 pub use members::parameter_type;
@@ -21,7 +19,7 @@ ghost use lib.ListN.{length};
 ghost use Rattle.rules.specs.Base.{is, eqName};
 ghost use Rattle.rules.specs.Limits.{work-bytes};
 ghost use Rattle.rules.specs.Syntax.{result-variable};
-ghost use Rattle.rules.specs.Names.{classNumber, isClass, isType, inScope, variableType};
+ghost use Rattle.rules.specs.Names.{classNumber, isClass, isType, variableType};
 ghost use Rattle.read_names.specs.Rows.{most-rows, nameIn};
 ghost use Rattle.read_scopes.specs.Meanings.{NamesFit, AboveFits, namesFrom, declarationsIn, variablesIn, blockIn};
 ghost use Rattle.read_lookups.specs.LookUps.{no-variable, mayDeclare, mayAdd, mayAddField, mayAddMethod, typeOf, ownIn, Looked, isNew};
@@ -137,13 +135,6 @@ pub fn variable_type(text: &[u8], work: &[u8], c: Names, x: &[u8]) -> Span
 {
     let v = variable(text, work, c, x);
     type_of(work, v)
-}
-
-pub fn in_scope(text: &[u8], work: &[u8], c: Names, x: &[u8]) -> bool
-    requires { ⌜ (length (now work) ≡ work-bytes) × NamesFit c ⌝ }
-    ensures { λ r. ⌜ r ≡ inScope (variablesIn (now (text .entry)) (now (work .entry)) c) (now (x .entry)) ⌝ }
-{
-    variable(text, work, c, x) < read_names::NO_VARIABLE
 }
 
 // NEW NAMES

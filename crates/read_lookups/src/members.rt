@@ -8,20 +8,10 @@ ghost use lib.Dec.{eqb, ltb};
 ghost use Prim.Native.Nat.{ℕ, _+_, _≤_};
 ghost use lib.ListN.{length, getD};
 ghost use Rattle.rules.specs.Limits.{work-bytes};
-ghost use Rattle.rules.specs.Names.{fieldType, fieldNumber, methodNumber, noField, noDeclaration};
+ghost use Rattle.rules.specs.Names.{fieldNumber, methodNumber, noField, noDeclaration};
 ghost use Rattle.read_names.specs.Rows.{nameIn, ownerAt, fields-first};
 ghost use Rattle.read_scopes.specs.Meanings.{NamesFit, declarationsIn};
 ghost use Rattle.read_lookups.specs.LookUps.{fieldIndex};
-
-// Where the first field f of a class stands among the fields; their count if there is none.
-pub fn field_of(text: &[u8], work: &[u8], c: Names, class: Span, f: &[u8]) -> usize
-    requires { ⌜ (length (now work) ≡ work-bytes) × NamesFit c ⌝ }
-    ensures { λ r. ⌜ (r ≡ fieldIndex (now (text .entry)) (now (work .entry)) c class (now (f .entry))) × (r ≤ c .fields) ⌝ }
-{
-    let k = crate::class_number(text, work, c, read_names::name_in(text, class));
-    let n = c.fields;
-    read_names::find(text, work, read_names::FIELDS, n, k, f)
-}
 
 // The type of the field i.
 pub fn field_gives(work: &[u8], c: Names, i: usize) -> Span
@@ -32,14 +22,6 @@ pub fn field_gives(work: &[u8], c: Names, i: usize) -> Span
         return read_names::gives_at(work, read_names::FIELDS + i);
     }
     read_names::no_span()
-}
-
-pub fn field_type(text: &[u8], work: &[u8], c: Names, class: Span, f: &[u8]) -> Span
-    requires { ⌜ (length (now work) ≡ work-bytes) × NamesFit c ⌝ }
-    ensures { λ r. ⌜ nameIn (now (text .entry)) r ≡ fieldType (declarationsIn (now (text .entry)) (now (work .entry)) c) (nameIn (now (text .entry)) class) (now (f .entry)) ⌝ }
-{
-    let i = field_of(text, work, c, class, f);
-    field_gives(work, c, i)
 }
 
 // The number of a field's name: where the first field of that name stands, of whatever class.
@@ -62,7 +44,8 @@ fn is_field_of(work: &[u8], c: Names, k: usize, i: usize) -> bool
     false
 }
 
-// As field_of, where the number of the name f is known: the first field of that name, if it is of the class, needs no other search.
+// Where the first field f of a class stands among the fields; their count if there is none. The first field of that name, which
+// `number` is, needs no other search if it is of the class.
 pub fn owned_field(
     text: &[u8],
     work: &[u8],

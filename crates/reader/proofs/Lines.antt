@@ -18,9 +18,11 @@ use Rattle.read_grammar.proofs.Rows.{kind-of-number, kind-numbered}
 use Rattle.tables.specs.Decode.{framedFrom}
 use Rattle.rules.specs.Syntax.{Program}
 use Rattle.read_scan.specs.declared.Word.{Word}
+use Rattle.read_types.specs.declared.Fault.{Fault}
+use Rattle.read_types.specs.declared.Verdict.{Verdict}
 use Rattle.resolve_pass.specs.declared.Pass.{Pass}
 use Rattle.resolve_pass.specs.declared.TriedLine.{TriedLine}
-use Rattle.resolve_pass.specs.Passes.{isFramed, PassFits, Stands, LineRoom, LinePut, item, unframedAfter, lineAfter, isGoodHere, BadLine, LineTried}
+use Rattle.resolve_pass.specs.Passes.{isFramed, PassFits, Stands, LineRoom, LinePut, item, unframedAfter, lineAfter, judgedHere, BadLine, LineTried}
 use Rattle.resolve_headers.specs.Headers.{isDeclaration}
 use Rattle.resolve_pass.proofs.Unframed.{framed-formula, framed-other}
 use Rattle.reader.specs.Readings.{Between, Written, Begins, LineTaken, unframedBy, withUnframed}
@@ -30,19 +32,6 @@ use Rattle.resolve_bodies.specs.Bodies.{Follows}
 pub framed-number : (n : ℕ) → IsKindNumber n → isFramed (kindNumbered n) ≡ (eqb 4 n || (eqb 5 n || (eqb 17 n || eqb 21 n)))
 unfolding isFramed kindNumber statementNumber
 framed-number n h = let is = kind-numbered n h in rw (is Requires, is Ensures, is (statement Join), is (statement Loop))
-
--- the kinds that it is not about, by theirs
-pub declares-unframed : (k : ℕ) → isDeclaration k ≡ true → isFramed (kindNumbered k) ≡ false
-unfolding isDeclaration isFramed isKind isStatement kindNumber
-declares-unframed k e = go (eqb k 1) (eqb k 6) refl refl e
-  where
-    is : (K : Kind) → k ≡ kindNumber K → isFramed K ≡ false → isFramed (kindNumbered k) ≡ false
-    is K i f = ap isFramed (ap kindNumbered i ∙ kind-of-number K) ∙ f
-
-    go : (x y : Bool) → eqb k 1 ≡ x → eqb k 6 ≡ y → (x || y) ≡ true → isFramed (kindNumbered k) ≡ false
-    go true y p q e = is Class (eqb-true k 1 p) refl
-    go false true p q e = is Main (eqb-true k 6 q) refl
-    go false false p q e = true-false (sym e)
 
 -- of the kinds that are no statements, the last that is tried
 pub var-left :
@@ -122,44 +111,20 @@ module _ {t w : List ℕ} {p : Pass} {l : Line} {w′ : List ℕ} {q : Pass} (x 
       let n : (u : ℕ) → Pass = λ u. withUnframed q (unframedBy (isFramed (l .kind)) (framedFrom w′ u (p .atoms) (q .atoms - p .atoms)) p) in
       subst (LineTaken t w p l w′) (sym (i ∙ ap n (sym e))) (record { put = put-unframed _; unframed = unframed-is (s .flat) (s .stands) })
 
-  -- it is not about the line
-  pub line-declared : isFramed (l .kind) ≡ false → q .unframed ≡ p .unframed → LineTaken t w p l w′ q
-  unfolding unframedAfter
-  line-declared e u = record { put = x; unframed = u ∙ go (p .unframed) (framedItem (item t w p l)) (framed-other _ _ (l .kind) l e) }
-    where
-      go : (u : ℕ) (b : Bool) → b ≡ true → u ≡ cond (eqb u 0) (cond b 0 (suc (p .line))) u
-      go zero b i = sym (rw i)
-      go (suc u) b i = sym (rw (eqb·suc-zero u))
-
 -- A LINE THAT IS TRIED
 module _ {t w : List ℕ} {p : Pass} {r : Word} (x : Begins t w p r) where
   pub follows : LineRoom t w p (lineAfter t (r .end) (r .kind)) → Follows t w p (r .kind) (r .end)
   follows m = record { ready = x .ready; high = x .high; formed = x .formed; room = m }
 
-  pub begins-after : {w′ : List ℕ} → length w′ ≡ length w → Begins t w′ p r
-  begins-after e =
-      record {
-        ready =
-            record {
-              text = x .ready .text;
-              whole = e ∙ x .ready .whole;
-              names = x .ready .names;
-              above = x .ready .above;
-              result = x .ready .result;
-            };
-        high = x .high;
-        kind = x .kind;
-        formed = x .formed;
-      }
-
 module _ {t w : List ℕ} {p : Pass} {l : Line} {w′ : List ℕ} {y : TriedLine} (x : LineTried t w p l w′ y) where
-  pub tried-on : (q : Pass) → y ≡ TriedLine.On q → (isGoodHere t w p l ≡ true) × (LinePut t w p l w′ q × (q .unframed ≡ p .unframed))
+  pub tried-on : (q : Pass) → y ≡ TriedLine.On q → (judgedHere t w p l ≡ Verdict.Good) × (LinePut t w p l w′ q × (q .unframed ≡ p .unframed))
   unfolding LineTried
   tried-on q i = subst (LineTried t w p l w′) i x
 
-  pub tried-bad : y ≡ TriedLine.Bad → BadLine t w p l w′
-  unfolding LineTried
-  tried-bad i = subst (LineTried t w p l w′) i x
+pub tried-bad :
+    (t w : List ℕ) (p : Pass) (l : Line) (w′ : List ℕ) (y : TriedLine) (f : Fault) → LineTried t w p l w′ y → y ≡ TriedLine.Bad f → BadLine t w p l w′ f
+unfolding LineTried
+tried-bad t w p l w′ y f x i = subst (LineTried t w p l w′) i x
 
 -- a line of the kind K, by its number
 module _ (t w : List ℕ) (p : Pass) {k : ℕ} (r : ℕ) (K : Kind) (e : k ≡ kindNumber K) where

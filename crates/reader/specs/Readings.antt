@@ -2,7 +2,6 @@
 use mathlib.Core.Path.{_≡_}
 use mathlib.Core.Bool.{Bool, cond}
 use mathlib.Core.List.{List, []}
-use mathlib.Core.Option.{Option}
 use Prim.Native.Nat.{ℕ, suc, _+_, _≤_, _<_}
 use lib.Dec.{eqb}
 use lib.ListN.{length}
@@ -22,14 +21,14 @@ use Rattle.tables.specs.Layout.{most-atom-rows}
 use Rattle.tables.specs.Decode.{programIn, run, atomCount, classCount, methodCount}
 use Rattle.tables.specs.Tables.{Tables}
 use Rattle.read_names.specs.Rows.{entryAt, classes-first, methods-first}
-use Rattle.read_scopes.specs.Meanings.{NamesFit, asMethod, namesFrom, declarationsIn, variablesIn, scopeIn}
+use Rattle.read_scopes.specs.Meanings.{NamesFit, asMethod, namesFrom, declarationsIn, scopeIn}
 use Rattle.rules.specs.Syntax.{Program}
 use Rattle.rules.specs.Reading.{noProgram, withItems}
+use Rattle.read_types.specs.declared.Fault.{Fault}
 use Rattle.read_declarations.specs.Texts.{linesOf, TextTaken}
 use Rattle.read_declarations.specs.Declares.{FormedAfter}
-use Rattle.read_refusals.specs.Refusals.{refusalIn}
 use Rattle.resolve_pass.specs.declared.Pass.{Pass}
-use Rattle.resolve_pass.specs.Passes.{seenBy, PassFits, Stands, LinePut, after, item, unframedAfter}
+use Rattle.resolve_pass.specs.Passes.{PassFits, Stands, LinePut, after, item, unframedAfter}
 use Rattle.reader.specs.declared.Refusal.{Refusal}
 use Rattle.reader.specs.declared.Step.{Step}
 use Rattle.reader.specs.declared.Resolved.{Resolved}
@@ -45,6 +44,12 @@ refusalOf Refusal.Undeclared = Answers.undeclared
 refusalOf Refusal.WrongType = Answers.wrongType
 refusalOf Refusal.TextEnds = Answers.textEnds
 refusalOf Refusal.WrongTarget = Answers.wrongTarget
+
+-- the row that a fault of names and types is
+unfoldable pub numberOf : Fault → Answers.Refusal
+numberOf Fault.Undeclared = Answers.undeclared
+numberOf Fault.WrongType = Answers.wrongType
+numberOf Fault.WrongTarget = Answers.wrongTarget
 
 -- the verdict of number 10, by the first line that it refuses, or 0
 unfoldable pub framedVerdict : ℕ → Verdict (Unit {0})
@@ -63,11 +68,6 @@ pub record Begins (t w : List ℕ) (p : Pass) (r : Word) : Type 0 where
   pub high : r .end ≤ length t
   pub kind : IsKindNumber (r .kind)
   pub formed : FormedAfter t (r .end) (kindNumbered (r .kind))
-
--- the number of 6, 7 and 9 that refuses it, or none
-unfoldable pub refusalHere : (t w : List ℕ) → Pass → Line → Option Answers.Refusal
-refusalHere t w p l =
-    refusalIn (declarationsIn t w (p .names)) (variablesIn t w (seenBy (l .kind) (p .names))) (scopeIn t w (p .names) (p .above)) l
 
 -- its atoms, between p and q, are written; k is the number of its kind
 pub record Between (w : List ℕ) (k : ℕ) (p q : Pass) : Type 0 where

@@ -1,17 +1,16 @@
 // Any bytes to tables, or to the number and line of rows 2 to 10: pass 1, the declarations, and pass 2 line by line.
-use read_refusals::Judged;
 use read_scan::Scanned;
 use read_scan::Word;
 use read_scopes::Above;
 use read_scopes::Names;
 use read_scopes::Range;
+use read_types::Fault;
 use resolve_pass::Pass;
 use resolve_pass::TriedLine;
 use rules::Kind;
 use rules::Machine;
 ghost use mathlib.Core.Path.{_≡_};
 ghost use mathlib.Core.Bool.{true, false};
-ghost use mathlib.Core.Option.{some};
 ghost use Prim.Native.Nat.{_+_, _-_, _≤_, _<_};
 ghost use lib.ListN.{length};
 ghost use Rattle.rules.specs.Limits.{work-bytes, most-bytes};
@@ -22,11 +21,10 @@ ghost use Rattle.read_scan.specs.Table.{LineTable};
 ghost use Rattle.tables.specs.Decode.{framedFrom};
 ghost use Rattle.read_declarations.specs.Texts.{TextTaken};
 ghost use Rattle.read_declarations.specs.Declares.{Declares};
-ghost use Rattle.read_refusals.specs.Refusals as Judges;
 ghost use Rattle.resolve_headers.specs.Headers.{isDeclaration, Held};
 ghost use Rattle.resolve_bodies.specs.Bodies.{Follows};
-ghost use Rattle.resolve_pass.specs.Passes.{firstPass, LineRoom, isFramed, lineAfter, isGoodHere, LineTried};
-ghost use Rattle.reader.specs.Readings.{unframedBy, withUnframed, Between, Written, Begins, refusalHere, StepIs, ResolvedIs, ReadingIs, refusalOf};
+ghost use Rattle.resolve_pass.specs.Passes.{firstPass, LineRoom, isFramed, lineAfter, LineTried};
+ghost use Rattle.reader.specs.Readings.{unframedBy, withUnframed, Between, Written, Begins, StepIs, ResolvedIs, ReadingIs, refusalOf, numberOf};
 
 // Why a text is refused.
 pub enum Refusal {
@@ -42,11 +40,24 @@ pub enum Refusal {
 
 // ONE LINE
 
-// Puts a line of this kind, the word of which ends at r, into the tables if it is good. The kind is not `class` or `main`.
+fn is_declaration(kind: u8) -> bool
+    ensures { λ r. ⌜ r ≡ isDeclaration kind ⌝ }
+{
+    match kind {
+        Kind::CLASS => true,
+        Kind::MAIN => true,
+        _ => false,
+    }
+}
+
+// Puts a line of this kind, the word of which ends at r, into the tables if it is good.
 fn try_line(text: &[u8], work: &mut [u8], p: Pass, kind: u8, r: usize) -> TriedLine
-    requires { ⌜ Follows (now text) (now work) p kind r × IsKindNumber kind × (isDeclaration kind ≡ false) × Held (now work) p ⌝ }
+    requires { ⌜ Follows (now text) (now work) p kind r × IsKindNumber kind × Held (now work) p ⌝ }
     ensures { λ q. ⌜ LineTried (now (text .entry)) (now (work .entry)) p (lineAfter (now (text .entry)) r kind) (now (work .exit)) q ⌝ }
 {
+    if is_declaration(kind) {
+        return resolve_headers::put_declaration(text, work, p, kind, r);
+    }
     if Kind::is_statement(kind) {
         return resolve_bodies::put_statement(text, work, p, kind, r);
     }
@@ -115,74 +126,30 @@ fn take_line(work: &[u8], kind: u8, p: Pass, q: Pass) -> Pass
     with_unframed(q, u)
 }
 
-// What the tests of numbers 6, 7 and 9 say of the line with the word w.
-fn judge_line(text: &[u8], work: &[u8], w: Word, p: Pass) -> Judged
-    requires { ⌜ Begins (now text) (now work) p w ⌝ }
-    ensures { λ j. ⌜ Judges.refusalOf j ≡ refusalHere (now (text .entry)) (now (work .entry)) p (lineAfter (now (text .entry)) (w .end) (w .kind)) ⌝ }
-{
-    let names = p.names;
-    let above = p.above;
-    let c = resolve_bodies::seen(names, w.kind);
-    read_refusals::judge(text, work, w.end, w.kind, c, above)
-}
-
-// Why a line that is not good is refused.
-fn why_refused(text: &[u8], work: &[u8], w: Word, p: Pass) -> Refusal
-    requires { ⌜ Begins (now text) (now work) p w × (isGoodHere (now text) (now work) p (lineAfter (now text) (w .end) (w .kind)) ≡ false) ⌝ }
-    ensures { λ r. ⌜ refusalHere (now (text .entry)) (now (work .entry)) p (lineAfter (now (text .entry)) (w .end) (w .kind)) ≡ some (refusalOf r) ⌝ }
-{
-    let j = judge_line(text, work, w, p);
-    match j {
-        Judged::Undeclared => Refusal::Undeclared,
-        Judged::WrongType => Refusal::WrongType,
-        Judged::WrongTarget => Refusal::WrongTarget,
-        // Not so: a line that is not good is refused.
-        Judged::Good => Refusal::WrongTarget,
-    }
-}
-
 // What a line is: in the tables, or refused.
 pub enum Step {
     On(Pass),
     Refused(Refusal),
 }
 
-fn is_declaration(kind: u8) -> bool
-    ensures { λ r. ⌜ r ≡ isDeclaration kind ⌝ }
+fn fault_refusal(f: Fault) -> Refusal
+    ensures { λ r. ⌜ refusalOf r ≡ numberOf f ⌝ }
 {
-    match kind {
-        Kind::CLASS => true,
-        Kind::MAIN => true,
-        _ => false,
+    match f {
+        Fault::Undeclared => Refusal::Undeclared,
+        Fault::WrongType => Refusal::WrongType,
+        Fault::WrongTarget => Refusal::WrongTarget,
     }
 }
 
-// A line `class` or `main` is judged before it is put.
-fn declare_line(text: &[u8], work: &mut [u8], w: Word, p: Pass) -> Step
-    requires { ⌜ Begins (now text) (now work) p w × (isDeclaration (w .kind) ≡ true) × LineRoom (now text) (now work) p (lineAfter (now text) (w .end) (w .kind)) × Written (now text) (now work) p ⌝ }
-    ensures { λ s. ⌜ StepIs (now (text .entry)) (now (work .entry)) p (lineAfter (now (text .entry)) (w .end) (w .kind)) (now (work .exit)) s ⌝ }
-{
-    let j = judge_line(text, work, w, p);
-    match j {
-        Judged::Undeclared => Step::Refused(Refusal::Undeclared),
-        Judged::WrongType => Step::Refused(Refusal::WrongType),
-        Judged::WrongTarget => Step::Refused(Refusal::WrongTarget),
-        Judged::Good => Step::On(resolve_headers::put_declaration(text, work, p, w.kind, w.end)),
-    }
-}
-
-// The line with the word w. Unless `declare_line` takes it, its names are looked up once, as it is written, and it is judged only if it
-// is not good.
+// The line with the word w. Its names are looked up once, as it is written.
 fn read_line(text: &[u8], work: &mut [u8], w: Word, p: Pass) -> Step
     requires { ⌜ Begins (now text) (now work) p w × LineRoom (now text) (now work) p (lineAfter (now text) (w .end) (w .kind)) × Written (now text) (now work) p ⌝ }
     ensures { λ s. ⌜ StepIs (now (text .entry)) (now (work .entry)) p (lineAfter (now (text .entry)) (w .end) (w .kind)) (now (work .exit)) s ⌝ }
 {
-    if is_declaration(w.kind) {
-        return declare_line(text, work, w, p);
-    }
     let t = try_line(text, work, p, w.kind, w.end);
     match t {
-        TriedLine::Bad => Step::Refused(why_refused(text, work, w, p)),
+        TriedLine::Bad(f) => Step::Refused(fault_refusal(f)),
         TriedLine::On(q) => Step::On(take_line(work, w.kind, p, q)),
     }
 }

@@ -1,13 +1,13 @@
 -- A formula as the cursor passes it: three fields are an atom, and what is written grows with it.
 use mathlib.Core.Path.{_≡_, refl, sym, ap, ap₂, subst, _∙_}
-use mathlib.Core.Bool.{Bool, true, false, _&&_}
+use mathlib.Core.Bool.{Bool, true, false}
 use mathlib.Core.List.{List, [], _∷_, _++_, map, append-nil, append-assoc}
 use Prim.Native.Nat.{ℕ, zero, suc, _+_, _-_, _≤_, _<_}
 use native.Mathlib.Nat.{add-zero}
 use native.Mathlib.Omega.{arith}
 use lib.ListN.{length, getD, take, drop, length-append, length-drop}
 use lib.Seq.{getD-take, getD-drop, length-take-le}
-use Rattle.rules.specs.Base.{Name, all}
+use Rattle.rules.specs.Base.{Name}
 use Rattle.rules.specs.Limits.{work-bytes}
 use Rattle.rules.specs.Syntax.{Atom, Formula}
 use Rattle.rules.specs.Text.{upTo, isAtom, atomOf, isFormula, formulaOf}
@@ -21,12 +21,17 @@ use Rattle.read_atoms.specs.Atoms.{atomWord, beginsAtom, atomRow, begunBy}
 use Rattle.read_atoms.proofs.Atoms.{atom-begins, some-bytes, word-told}
 use Rattle.read_fields.specs.Cuts.{part, more, NextField}
 use Rattle.read_fields.proofs.Cuts.{byte-in, no-more, some-more, fields-from}
-use Rattle.read_fields.proofs.Formulas.{NextAtom, more-on, not-none, formula-full, atom-0, atom-1, atom-2, atom-3, atom-here}
+use Rattle.read_fields.proofs.Formulas as Atoms
+use Rattle.read_fields.proofs.Formulas.{more-on, not-none, formula-full, atom-0, atom-1, atom-2, atom-3, atom-here}
 use Rattle.tables.specs.Layout.{names-at, most-atom-rows, most-line-atoms}
 use Rattle.tables.specs.Stores.{Kept}
 use Rattle.read_scopes.specs.declared.Names.{Names}
 use Rattle.read_scopes.specs.Meanings.{AreaFits, declarationsIn, variablesIn}
 use Rattle.read_scopes.proofs.Scopes.{names-kept, variables-kept}
+use Rattle.read_types.specs.declared.Fault.{Fault}
+use Rattle.read_types.specs.declared.Verdict.{Verdict}
+use Rattle.read_types.specs.Verdicts.{lower}
+use Rattle.read_types.proofs.Verdicts.{lower-assoc, lower-last, lower-good, not-bad}
 use Rattle.rules.specs.Syntax.{Program}
 use Rattle.write_rows.specs.Puts.{putAtom}
 use Rattle.write_rows.specs.Holds as Holds
@@ -35,9 +40,10 @@ use Rattle.write_rows.specs.Holds.{AtomOk, Building}
 use Rattle.write_rows.proofs.Atoms.{atom-names, atom-length, building, atom-written}
 use Rattle.resolve_atoms.specs.declared.AtomRow.{AtomRow}
 use Rattle.resolve_atoms.specs.declared.TriedAtom.{TriedAtom}
+use Rattle.resolve_atoms.specs.declared.NextAtom.{NextAtom}
 use Rattle.resolve_atoms.specs.declared.Put.{Put}
-use Rattle.resolve_atoms.specs.Good.{fitsAtom}
-use Rattle.resolve_atoms.specs.Written.{Resolved, AtomTried, formulaAfter, fitsAfter, AtomFollows, AtomPut, NextTried, FormulaFollows, FormulaTried}
+use Rattle.resolve_atoms.specs.Good.{atomJudged, atomsJudged}
+use Rattle.resolve_atoms.specs.Written.{Resolved, AtomTried, formulaAfter, judgedAfter, AtomFollows, NextTried, FormulaFollows, FormulaTried}
 
 -- THE WORD OF AN ATOM
 
@@ -100,7 +106,7 @@ module _ {t : List ℕ} {r : ℕ} (f : AtomFollows t r) where
 module _
     {t : List ℕ} {r x y z : ℕ} (f : NextField t r x) (g : NextField t x y) (h : NextField t y z) (tab : getD t r 0 ≡ 9) (m : ℕ)
     (form : isFormula (suc m) (more (drop r t)) ≡ true) where
-  never : {A : Type 0} → NextAtom t r r → A
+  never : {A : Type 0} → Atoms.NextAtom t r r → A
   never n = true-false (sym form ∙ n .none refl m (not-none t r tab))
 
   pub some-1 : x ≡ r → ⊥
@@ -140,27 +146,31 @@ module _
   next-form n = atom-here f some-1 g some-2 h some-3 is-atom .some (omega (arith, f .low, g .low, h .low, some-1)) n
 
   module _ (w : List ℕ) (c : Names) where
-    fits-cut :
-        fitsAfter t w c r ≡ (fitsAtom (declarationsIn t w c) (variablesIn t w c) here && fitsAfter t w c z)
-    unfolding fitsAfter all
-    fits-cut = ap (all (fitsAtom (declarationsIn t w c) (variablesIn t w c))) formula-cut
+    judged-cut :
+        judgedAfter t w c r ≡ lower (atomJudged (declarationsIn t w c) (variablesIn t w c) here) (judgedAfter t w c z)
+    unfolding judgedAfter atomsJudged
+    judged-cut = ap (atomsJudged (declarationsIn t w c) (variablesIn t w c)) formula-cut
+
+    formula-on : formulaAfter t w c r ≡ resolveAtom (declarationsIn t w c) (variablesIn t w c) here ∷ formulaAfter t w c z
+    unfolding formulaAfter
+    formula-on = ap (map (resolveAtom (declarationsIn t w c) (variablesIn t w c))) formula-cut
 
     pub next-put :
         (k : AreaFits w c) (n : ℕ) (q : TriedAtom) (a : AtomRow) (u : List ℕ) → n < most-atom-rows →
         AtomTried (declarationsIn t w c) (variablesIn t w c) here q → q ≡ TriedAtom.Row a → u ≡ putAtom w n (a .kind) (a .left) (a .right) →
-        NextTried t w c r n u (Put.Done z)
-    unfolding formulaAfter NextTried AtomTried
+        NextTried t w c r n u (record { end = z; verdict = Verdict.Good })
+    unfolding AtomTried
     next-put k n q a u l y i e =
-        let x : (fitsAtom (declarationsIn t w c) (variablesIn t w c) here ≡ true) × Resolved (declarationsIn t w c) (variablesIn t w c) here a =
+        let x : (atomJudged (declarationsIn t w c) (variablesIn t w c) here ≡ Verdict.Good) × Resolved (declarationsIn t w c) (variablesIn t w c) here a =
         subst (AtomTried (declarationsIn t w c) (variablesIn t w c) here) i y in
         record {
           atom = resolveAtom (declarationsIn t w c) (variablesIn t w c) here;
           low = omega (arith, f .low, g .low, h .low, some-1);
           high = h .high;
           form = next-form;
-          fits = fits-cut ∙ rw (x .0);
-          is = ap (map (resolveAtom (declarationsIn t w c) (variablesIn t w c))) formula-cut;
-          built = λ D F i φ b.
+          judged = judged-cut ∙ ap (λ v. lower v (judgedAfter t w c z)) (x .0);
+          is = formula-on;
+          built = λ good D F i φ b.
               subst (λ v. Building D v F i (n + 1) (φ ++ (resolveAtom (declarationsIn t w c) (variablesIn t w c) here ∷ []))) (sym e)
               (subst (λ y. Building D (putAtom w n (a .kind) (a .left) (a .right)) F i (n + 1) (φ ++ (y ∷ []))) (x .1 .is)
               (atom-written D w F i n φ (a .kind) (a .left) (a .right) l (x .1 .ok) b));
@@ -169,58 +179,70 @@ module _
         }
 
     pub next-bad :
-        (n : ℕ) (q : TriedAtom) → AtomTried (declarationsIn t w c) (variablesIn t w c) here q → q ≡ TriedAtom.Bad → NextTried t w c r n w Put.Bad
-    unfolding NextTried AtomTried
-    next-bad n q y i =
-        let x : fitsAtom (declarationsIn t w c) (variablesIn t w c) here ≡ false =
+        (n : ℕ) (q : TriedAtom) (b : Fault) → AtomTried (declarationsIn t w c) (variablesIn t w c) here q → q ≡ TriedAtom.Bad b →
+        NextTried t w c r n w (record { end = z; verdict = Verdict.Bad b })
+    unfolding AtomTried
+    next-bad n q b y i =
+        let x : atomJudged (declarationsIn t w c) (variablesIn t w c) here ≡ Verdict.Bad b =
         subst (AtomTried (declarationsIn t w c) (variablesIn t w c) here) i y in
-        (fits-cut ∙ rw x, refl)
+        record {
+          atom = resolveAtom (declarationsIn t w c) (variablesIn t w c) here;
+          low = omega (arith, f .low, g .low, h .low, some-1);
+          high = h .high;
+          form = next-form;
+          judged = judged-cut ∙ ap (λ v. lower v (judgedAfter t w c z)) x;
+          is = formula-on;
+          built = λ good D F i φ k. not-bad b good;
+          names = λ j k l. refl;
+          size = refl;
+        }
 
 -- the row of an atom that was tried
 pub row-ok : (Γ : Declarations) (vs : List Variable) (x : Atom Name) (q : TriedAtom) (a : AtomRow) → AtomTried Γ vs x q → q ≡ TriedAtom.Row a →
     AtomOk (a .kind) (a .left) (a .right)
 unfolding AtomTried
 row-ok Γ vs x q a y i =
-    let z : (fitsAtom Γ vs x ≡ true) × Resolved Γ vs x a = subst (AtomTried Γ vs x) i y in z .1 .ok
+    let z : (atomJudged Γ vs x ≡ Verdict.Good) × Resolved Γ vs x a = subst (AtomTried Γ vs x) i y in z .1 .ok
 
 -- THE LOOP
 
--- the atoms before r are written
-pub record Writing (t v : List ℕ) (c : Names) (from first : ℕ) (w : List ℕ) (r n : ℕ) : Type 0 where
+-- the atoms before r are tried, and written if they are good; u is what the tests say of them
+pub record Writing (t v : List ℕ) (c : Names) (from first : ℕ) (w : List ℕ) (r n : ℕ) (u : Verdict) : Type 0 where
   pub high : r ≤ length t
   pub most : ℕ
   pub form : isFormula most (more (drop r t)) ≡ true
-  pub fits : fitsAfter t v c from ≡ fitsAfter t v c r
+  pub judged : judgedAfter t v c from ≡ lower u (judgedAfter t v c r)
   pub done : Formula ℕ
   pub all : formulaAfter t v c from ≡ done ++ formulaAfter t v c r
   pub count : n ≡ first + length done
-  pub built : (D : Declared) (F : Program) → Holds.Holds D v F first → Building D w F first n done
+  pub built : u ≡ Verdict.Good → (D : Declared) (F : Program) → Holds.Holds D v F first → Building D w F first n done
   pub names : Kept names-at work-bytes v w
   pub size : length w ≡ length v
 
-pub writing-first : {t v : List ℕ} {c : Names} {from first : ℕ} → FormulaFollows t v c most-line-atoms from first → Writing t v c from first v from first
+pub writing-first : {t v : List ℕ} {c : Names} {from first : ℕ} → FormulaFollows t v c most-line-atoms from first → Writing t v c from first v from first Verdict.Good
+unfolding lower
 writing-first {t} {v} {c} {from} {first} x =
     record {
       high = x .high;
       most = most-line-atoms;
       form = x .form;
-      fits = refl;
+      judged = refl;
       done = [];
       all = refl;
       count = omega arith;
-      built = λ D F h. building D v F first h;
+      built = λ good D F h. building D v F first h;
       names = λ i a b. refl;
       size = refl;
     }
 
-module _ {t v : List ℕ} {c : Names} {from first : ℕ} {w : List ℕ} {r n : ℕ} (x : Writing t v c from first w r n) (k : AreaFits v c) where
+module _ {t v : List ℕ} {c : Names} {from first : ℕ} {w : List ℕ} {r n : ℕ} {u : Verdict} (x : Writing t v c from first w r n u) (k : AreaFits v c) where
   pub still-ready : AreaFits w c
   still-ready = record { whole = x .size ∙ k .whole; fits = k .fits }
 
-  same-fits : (e : ℕ) → fitsAfter t w c e ≡ fitsAfter t v c e
-  unfolding fitsAfter
-  same-fits e =
-      ap₂ (λ Γ vs. Rattle.rules.specs.Base.all (fitsAtom Γ vs) (formulaOf (more (drop e t)))) (names-kept t v w c (k .fits) (x .names))
+  same-judged : (e : ℕ) → judgedAfter t w c e ≡ judgedAfter t v c e
+  unfolding judgedAfter
+  same-judged e =
+      ap₂ (λ Γ vs. atomsJudged Γ vs (formulaOf (more (drop e t)))) (names-kept t v w c (k .fits) (x .names))
       (variables-kept t v w c (k .fits) (x .names))
 
   same-formula : (e : ℕ) → formulaAfter t w c e ≡ formulaAfter t v c e
@@ -229,34 +251,31 @@ module _ {t v : List ℕ} {c : Names} {from first : ℕ} {w : List ℕ} {r n : �
       ap₂ (λ Γ vs. map (resolveAtom Γ vs) (formulaOf (more (drop e t)))) (names-kept t v w c (k .fits) (x .names))
       (variables-kept t v w c (k .fits) (x .names))
 
-  pub writing-done : (getD t r 0 ≡ 9 → ⊥) → FormulaTried t v c from first w (Put.Done n)
-  unfolding formulaOf formulaAfter fitsAfter FormulaTried Rattle.rules.specs.Base.all
-  writing-done e =
-      let z : formulaAfter t v c r ≡ [] =
-      ap (λ ws. map (resolveAtom (declarationsIn t v c) (variablesIn t v c)) (formulaOf ws)) (no-more t r e) in
-      let a : formulaAfter t v c from ≡ x .done = x .all ∙ (ap (λ φ. x .done ++ φ) z ∙ append-nil (x .done)) in
-      let f : fitsAfter t v c r ≡ true =
-      ap (λ ws. Rattle.rules.specs.Base.all (fitsAtom (declarationsIn t v c) (variablesIn t v c)) (formulaOf ws)) (no-more t r e) in (
-        x .fits ∙ f,
-        record {
-          count = x .count ∙ ap (λ φ. first + length φ) (sym a);
-          built = λ D F h. subst (Building D w F first n) (sym a) (x .built D F h);
-          names = x .names;
-          size = x .size;
-        },
-      )
+  module _ (e : getD t r 0 ≡ 9 → ⊥) where
+    judged-last : judgedAfter t v c from ≡ u
+    unfolding judgedAfter formulaOf atomsJudged
+    judged-last =
+        x .judged
+        ∙ (ap (λ ws. lower u (atomsJudged (declarationsIn t v c) (variablesIn t v c) (formulaOf ws))) (no-more t r e) ∙ lower-last u)
 
-  pub bad-size : (u : List ℕ) (q : Put) → NextTried t w c r n u q → q ≡ Put.Bad → length u ≡ length v
-  unfolding NextTried
-  bad-size u q y i =
-      let z : (fitsAfter t w c r ≡ false) × (u ≡ w) = subst (NextTried t w c r n u) i y in ap length (z .1) ∙ x .size
+    pub writing-done : u ≡ Verdict.Good → FormulaTried t v c from first w (Put.Done n)
+    unfolding formulaOf formulaAfter FormulaTried
+    writing-done good =
+        let z : formulaAfter t v c r ≡ [] =
+        ap (λ ws. map (resolveAtom (declarationsIn t v c) (variablesIn t v c)) (formulaOf ws)) (no-more t r e) in
+        let a : formulaAfter t v c from ≡ x .done = x .all ∙ (ap (λ φ. x .done ++ φ) z ∙ append-nil (x .done)) in (
+          judged-last ∙ good,
+          record {
+            count = x .count ∙ ap (λ φ. first + length φ) (sym a);
+            built = λ D F h. subst (Building D w F first n) (sym a) (x .built good D F h);
+            names = x .names;
+            size = x .size;
+          },
+        )
 
-  -- the atom after r fails a test
-  pub writing-bad : (u : List ℕ) (q : Put) → NextTried t w c r n u q → q ≡ Put.Bad → FormulaTried t v c from first u Put.Bad
-  unfolding NextTried FormulaTried
-  writing-bad u q y i =
-      let z : (fitsAfter t w c r ≡ false) × (u ≡ w) = subst (NextTried t w c r n u) i y in
-      (x .fits ∙ (sym (same-fits r) ∙ z .0), subst (Kept names-at work-bytes v) (sym (z .1)) (x .names), ap length (z .1) ∙ x .size)
+    pub writing-bad : (f : Fault) → u ≡ Verdict.Bad f → FormulaTried t v c from first w (Put.Bad f)
+    unfolding FormulaTried
+    writing-bad f bad = (judged-last ∙ bad, x .size)
 
   module _ (tab : getD t r 0 ≡ 9) where
     pub writing-follows : AtomFollows t r
@@ -266,30 +285,28 @@ module _ {t v : List ℕ} {c : Names} {from first : ℕ} {w : List ℕ} {r n : �
         go zero f = true-false (sym f ∙ formula-full t r tab)
         go (suc m) f = record { high = x .high; byte = tab; most = m; form = f }
 
-    module _ (u : List ℕ) (e : ℕ) (q : Put) (d : NextTried t w c r n u q) (i : q ≡ Put.Done e) where
-      pub next-is : AtomPut t w c r n u e
-      unfolding NextTried
-      next-is = subst (NextTried t w c r n u) i d
-
-      abbrev y : AtomPut t w c r n u e
-      y = next-is
-
-      pub writing-on : Writing t v c from first u e (n + 1)
-      writing-on =
-          let a : formulaAfter t v c r ≡ y .atom ∷ formulaAfter t v c e =
-          sym (same-formula r) ∙ (y .is ∙ ap (λ φ. y .atom ∷ φ) (same-formula e)) in
-          record {
-            high = y .high;
-            most = writing-follows .most;
-            form = sym (y .form (writing-follows .most)) ∙ writing-follows .form;
-            fits = x .fits ∙ (sym (same-fits r) ∙ (y .fits ∙ same-fits e));
-            done = x .done ++ (y .atom ∷ []);
-            all = x .all ∙ (ap (λ φ. x .done ++ φ) a ∙ sym (append-assoc (x .done) (y .atom ∷ []) (formulaAfter t v c e)));
-            count = omega (arith, x .count, length-append (x .done) (y .atom ∷ []));
-            built = λ D F h. y .built D F first (x .done) (x .built D F h);
-            names = λ i a b. y .names i a b ∙ x .names i a b;
-            size = y .size ∙ x .size;
-          }
+    pub writing-on :
+        (a : List ℕ) (q : NextAtom) (b : Verdict) → NextTried t w c r n a q → b ≡ lower u (q .verdict) →
+        Writing t v c from first a (q .end) (n + 1) b
+    writing-on a q b y i =
+        let l : formulaAfter t v c r ≡ y .atom ∷ formulaAfter t v c (q .end) =
+        sym (same-formula r) ∙ (y .is ∙ ap (λ φ. y .atom ∷ φ) (same-formula (q .end))) in
+        record {
+          high = y .high;
+          most = writing-follows .most;
+          form = sym (y .form (writing-follows .most)) ∙ writing-follows .form;
+          judged =
+              x .judged
+              ∙ (ap (lower u) (sym (same-judged r) ∙ (y .judged ∙ ap (lower (q .verdict)) (same-judged (q .end))))
+              ∙ (lower-assoc u (q .verdict) (judgedAfter t v c (q .end)) ∙ ap (λ z. lower z (judgedAfter t v c (q .end))) (sym i)));
+          done = x .done ++ (y .atom ∷ []);
+          all = x .all ∙ (ap (λ φ. x .done ++ φ) l ∙ sym (append-assoc (x .done) (y .atom ∷ []) (formulaAfter t v c (q .end))));
+          count = omega (arith, x .count, length-append (x .done) (y .atom ∷ []));
+          built = λ good D F h.
+              let both = lower-good u (q .verdict) (sym i ∙ good) in y .built (both .1) D F first (x .done) (x .built (both .0) D F h);
+          names = λ i a b. y .names i a b ∙ x .names i a b;
+          size = y .size ∙ x .size;
+        }
 
     pub writing-room : first + length (formulaAfter t v c from) ≤ most-atom-rows → n < most-atom-rows
     unfolding formulaAfter formulaOf isFormula

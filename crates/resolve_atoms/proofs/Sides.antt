@@ -29,7 +29,11 @@ use Rattle.tables.specs.Stores.{meaning}
 use Rattle.read_scopes.specs.declared.Names as Declared
 use Rattle.read_types.specs.declared.Member as Member
 use Rattle.read_types.specs.declared.Lookup as Lookup
-use Rattle.read_types.specs.Types.{good, chainGood, typeMeant, MemberIs, LookIs}
+use Rattle.read_types.specs.declared.Fault.{Fault}
+use Rattle.read_types.specs.declared.Verdict.{Verdict}
+use Rattle.read_types.specs.Verdicts.{test, andThen, lower}
+use Rattle.read_types.specs.Types.{exprJudged, chainJudged, typeMeant, MemberIs, LookIs}
+use Rattle.read_types.proofs.Verdicts.{lower-good, then-good, judged-good}
 use Rattle.tables.specs.Decode.{run}
 use Rattle.read_names.specs.Rows.{entryAt, fields-first}
 use Rattle.read_scopes.specs.Meanings.{NamesFit, asField, declarationsIn, blockIn, ownVariables, variablesIn, variableAt, thisIn, resultIn}
@@ -40,8 +44,8 @@ use Rattle.tables.specs.Tables.{SideFits}
 use Rattle.write_rows.specs.Holds as Holds
 use Rattle.write_rows.specs.Holds.{accessOf}
 use Rattle.resolve_atoms.specs.declared.TriedAtom.{TriedAtom}
-use Rattle.resolve_atoms.specs.Good.{fitsAtom}
-use Rattle.resolve_atoms.specs.Written.{IsRelation, Resolved, AtomTried, permissionRow}
+use Rattle.resolve_atoms.specs.Good.{atomJudged}
+use Rattle.resolve_atoms.specs.Written.{IsRelation, Resolved, AtomTried, rowIf, permissionRow}
 
 -- the kind of `read`, that of `acc` or that of `chain`
 abbrev pub IsAccess : ℕ → Type 0
@@ -138,31 +142,31 @@ module _ (t w : List ℕ) (c : Declared.Names) (fits : NamesFit c) where
   abbrev vs : List Variable
   vs = variablesIn t w c
 
-  pub path-fits : (x f : Name) → good Γ vs (path x f) ≡ true → SideFits (resolveExpr Γ vs (path x f))
-  unfolding good knownExpr ofClassIn knownField SideFits resolveExpr
+  pub path-fits : (x f : Name) → exprJudged Γ vs (path x f) ≡ Verdict.Good → SideFits (resolveExpr Γ vs (path x f))
+  unfolding exprJudged knownExpr ofClassIn knownField SideFits resolveExpr
   path-fits x f g =
-      let a = both-true (inScope vs x && knownField Γ vs x f) (not (isInt vs x)) g in
+      let a = judged-good (inScope vs x && knownField Γ vs x f) (not (isInt vs x)) true g in
       let b = both-true (inScope vs x) (knownField Γ vs x f) (a .0) in
       let k = both-true (not (reserved f)) (isInt vs x || any (isFieldOf Γ (variableType vs x) f) (Γ .fields)) (b .1) in
-      let i : isInt vs x ≡ false = not-true _ (a .1) in
+      let i : isInt vs x ≡ false = not-true _ (a .1 .0) in
       let m : any (isFieldOf Γ (variableType vs x) f) (Γ .fields) ≡ true =
       subst (λ q. (q || any (isFieldOf Γ (variableType vs x) f) (Γ .fields)) ≡ true) i (k .1) in
       (variable-small x (b .0), field-small (variableType vs x) f m)
 
-  expr-fits : (w : Name) → good Γ vs (exprOf w) ≡ true → SideFits (resolveExpr Γ vs (exprOf w))
-  unfolding resolveExpr SideFits good knownExpr ofClassIn
+  expr-fits : (w : Name) → exprJudged Γ vs (exprOf w) ≡ Verdict.Good → SideFits (resolveExpr Γ vs (exprOf w))
+  unfolding resolveExpr SideFits exprJudged knownExpr ofClassIn
   expr-fits w g = go (exprOf w) refl g
     where
-      go : (e : Expr Name) → exprOf w ≡ e → good Γ vs e ≡ true → SideFits (resolveExpr Γ vs e)
+      go : (e : Expr Name) → exprOf w ≡ e → exprJudged Γ vs e ≡ Verdict.Good → SideFits (resolveExpr Γ vs e)
       go (num n) i h = number-read w n i
       go null i h = tt
-      go (var x) i h = variable-small x (both-true (inScope vs x) true h .0)
+      go (var x) i h = variable-small x (judged-good (inScope vs x) true true h .0)
       go (path x f) i h = path-fits x f h
 
   -- ATOMS
   module _ (k : ℕ) (a : IsAccess k) (x f : Name) where
     access-is :
-        (l : Tables.Expr) → good Γ vs (path x f) ≡ true → meaning l ≡ resolveExpr Γ vs (path x f) →
+        (l : Tables.Expr) → exprJudged Γ vs (path x f) ≡ Verdict.Good → meaning l ≡ resolveExpr Γ vs (path x f) →
         Resolved Γ vs (own (Decode.permitOf k) x f) (record { kind = k; left = l; right = Tables.Expr.Null })
     unfolding resolveExpr resolveAtom Holds.atomOf Decode.isPermission meaning SideFits
     access-is l g m =
@@ -174,22 +178,22 @@ module _ (t w : List ℕ) (c : Declared.Names) (fits : NamesFit c) where
 
     -- m: what was looked up
     pub permission-tried :
-        (m : Member.Member) (r : TriedAtom) {b : Bool} → MemberIs t w Γ vs x f b m → b ≡ fitsAtom Γ vs (own (Decode.permitOf k) x f) →
+        (m : Member.Member) (r : TriedAtom) {u : Verdict} → MemberIs t w Γ vs x f u m → u ≡ atomJudged Γ vs (own (Decode.permitOf k) x f) →
         r ≡ permissionRow k m → AtomTried Γ vs (own (Decode.permitOf k) x f) r
-    unfolding permissionRow AtomTried fitsAtom resolveExpr meaning
-    permission-tried m r h i e = subst (AtomTried Γ vs (own (Decode.permitOf k) x f)) (sym e) (go (m .good) (sym (h .good ∙ i)))
+    unfolding permissionRow rowIf AtomTried atomJudged resolveExpr meaning
+    permission-tried m r h i e = subst (AtomTried Γ vs (own (Decode.permitOf k) x f)) (sym e) (go (m .verdict) (sym (h .verdict ∙ i)))
       where
         go :
-            (b : Bool) → fitsAtom Γ vs (own (Decode.permitOf k) x f) ≡ b →
+            (v : Verdict) → atomJudged Γ vs (own (Decode.permitOf k) x f) ≡ v →
             AtomTried Γ vs (own (Decode.permitOf k) x f)
-            (cond b (TriedAtom.Row (record { kind = k; left = Tables.Expr.Path (m .variable) (m .number); right = Tables.Expr.Null })) TriedAtom.Bad)
-        go true g =
-            (g, access-is (Tables.Expr.Path (m .variable) (m .number)) (both-true (good Γ vs (path x f)) _ g .0) (ap₂ path (h .variable .number) (h .number)))
-        go false g = g
+            (rowIf v (record { kind = k; left = Tables.Expr.Path (m .variable) (m .number); right = Tables.Expr.Null }))
+        go Verdict.Good g =
+            (g, access-is (Tables.Expr.Path (m .variable) (m .number)) (then-good (exprJudged Γ vs (path x f)) _ g .0) (ap₂ path (h .variable .number) (h .number)))
+        go (Verdict.Bad b) g = g
 
   pub compared-is :
       (k : ℕ) (a b : Name) (l r : Tables.Expr) → IsRelation k →
-      good Γ vs (exprOf a) ≡ true → good Γ vs (exprOf b) ≡ true → meaning l ≡ resolveExpr Γ vs (exprOf a) →
+      exprJudged Γ vs (exprOf a) ≡ Verdict.Good → exprJudged Γ vs (exprOf b) ≡ Verdict.Good → meaning l ≡ resolveExpr Γ vs (exprOf a) →
       meaning r ≡ resolveExpr Γ vs (exprOf b) →
       Resolved Γ vs (cmp (Decode.relOf k) (exprOf a) (exprOf b)) (record { kind = k; left = l; right = r })
   unfolding resolveAtom Holds.atomOf Decode.isPermission
@@ -208,34 +212,34 @@ module _ (t w : List ℕ) (c : Declared.Names) (fits : NamesFit c) where
 
   module _ (k : ℕ) (a b : Name) (l r : Lookup.Lookup) (p : LookIs t Γ vs (exprOf a) l) (q : LookIs t Γ vs (exprOf b) r) where
     -- the tests of a comparison, by what the look-ups of its sides say
-    compared-fits :
-        fitsAtom Γ vs (cmp (Decode.relOf k) (exprOf a) (exprOf b)) ≡ (l .good && (r .good && Names.agree (typeMeant t (l .is)) (typeMeant t (r .is))))
-    unfolding fitsAtom
-    compared-fits = rw (p .good, q .good, p .is, q .is)
+    compared-judged :
+        atomJudged Γ vs (cmp (Decode.relOf k) (exprOf a) (exprOf b))
+        ≡ andThen (lower (l .verdict) (r .verdict)) (test (Names.agree (typeMeant t (l .is)) (typeMeant t (r .is))) Fault.WrongType Verdict.Good)
+    unfolding atomJudged
+    compared-judged = rw (p .verdict, q .verdict, p .is, q .is)
 
-    pub compared-row :
-        IsRelation k → l .good ≡ true → r .good ≡ true →
-        Names.agree (typeMeant t (l .is)) (typeMeant t (r .is)) ≡ true →
-        AtomTried Γ vs (cmp (Decode.relOf k) (exprOf a) (exprOf b)) (TriedAtom.Row (record { kind = k; left = l .expr; right = r .expr }))
-    unfolding AtomTried
-    compared-row i u v y = (
-      compared-fits ∙ rw (u, v, y),
-      compared-is k a b (l .expr) (r .expr) i (sym (p .good) ∙ u) (sym (q .good) ∙ v) (p .expr) (q .expr),
-    )
+    -- v: the verdict of both
+    module _ {v : Verdict} (e : v ≡ lower (l .verdict) (r .verdict)) where
+      pub side-bad : {f : Fault} → v ≡ Verdict.Bad f → AtomTried Γ vs (cmp (Decode.relOf k) (exprOf a) (exprOf b)) (TriedAtom.Bad f)
+      unfolding AtomTried andThen
+      side-bad u = compared-judged ∙ rw (sym e ∙ u)
 
-    pub left-bad : l .good ≡ false → AtomTried Γ vs (cmp (Decode.relOf k) (exprOf a) (exprOf b)) TriedAtom.Bad
-    unfolding AtomTried
-    left-bad u = compared-fits ∙ rw u
+      module _ (good : v ≡ Verdict.Good) where
+        pub apart-bad :
+            Names.agree (typeMeant t (l .is)) (typeMeant t (r .is)) ≡ false →
+            AtomTried Γ vs (cmp (Decode.relOf k) (exprOf a) (exprOf b)) (TriedAtom.Bad Fault.WrongType)
+        unfolding AtomTried andThen test
+        apart-bad y = compared-judged ∙ rw (sym e ∙ good, y)
 
-    pub right-bad : l .good ≡ true → r .good ≡ false → AtomTried Γ vs (cmp (Decode.relOf k) (exprOf a) (exprOf b)) TriedAtom.Bad
-    unfolding AtomTried
-    right-bad u v = compared-fits ∙ rw (u, v)
-
-    pub apart-bad :
-        l .good ≡ true → r .good ≡ true → Names.agree (typeMeant t (l .is)) (typeMeant t (r .is)) ≡ false →
-        AtomTried Γ vs (cmp (Decode.relOf k) (exprOf a) (exprOf b)) TriedAtom.Bad
-    unfolding AtomTried
-    apart-bad u v y = compared-fits ∙ rw (u, v, y)
+        pub compared-row :
+            IsRelation k → Names.agree (typeMeant t (l .is)) (typeMeant t (r .is)) ≡ true →
+            AtomTried Γ vs (cmp (Decode.relOf k) (exprOf a) (exprOf b)) (TriedAtom.Row (record { kind = k; left = l .expr; right = r .expr }))
+        unfolding AtomTried andThen test
+        compared-row i y =
+            let s = lower-good (l .verdict) (r .verdict) (sym e ∙ good) in (
+              compared-judged ∙ rw (sym e ∙ good, y),
+              compared-is k a b (l .expr) (r .expr) i (sym (p .verdict) ∙ s .0) (sym (q .verdict) ∙ s .1) (p .expr) (q .expr),
+            )
 
 -- THE ATOM OF A KIND
 module _ (k : ℕ) (a b : Name) (form : isAtom (atomWord k) a b ≡ true) where
@@ -253,19 +257,19 @@ module _ (k : ℕ) (a b : Name) (form : isAtom (atomWord k) a b ≡ true) where
 
   -- the tests of a permission, by its kind
   module _ (Γ : Declarations) (vs : List Variable) where
-    pub access-fits : k < chain-atom → good Γ vs (path a b) ≡ fitsAtom Γ vs (own (Decode.permitOf k) a b)
-    unfolding fitsAtom Decode.permitOf isPath
-    access-fits l = rw (ne-eqb k chain-atom (λ e. omega arith)) (go (eqb k 2) (good Γ vs (path a b)))
+    pub access-judged : k < chain-atom → exprJudged Γ vs (path a b) ≡ atomJudged Γ vs (own (Decode.permitOf k) a b)
+    unfolding atomJudged Decode.permitOf isPath test andThen
+    access-judged l = rw (ne-eqb k chain-atom (λ e. omega arith)) (go (eqb k 2) (exprJudged Γ vs (path a b)))
       where
-        go : (p q : Bool) → q ≡ (q && (isPath (cond p acc read) || Names.chains Γ vs a b))
-        go true true = refl
-        go true false = refl
-        go false true = refl
-        go false false = refl
+        go : (p : Bool) (v : Verdict) → v ≡ andThen v (test (isPath (cond p acc read) || Names.chains Γ vs a b) Fault.WrongType Verdict.Good)
+        go true Verdict.Good = refl
+        go true (Verdict.Bad f) = refl
+        go false Verdict.Good = refl
+        go false (Verdict.Bad f) = refl
 
-    pub chain-fits : k ≡ chain-atom → chainGood Γ vs a b ≡ fitsAtom Γ vs (own (Decode.permitOf k) a b)
-    unfolding fitsAtom chainGood Decode.permitOf isPath
-    chain-fits e = rw e
+    pub chain-judged : k ≡ chain-atom → chainJudged Γ vs a b ≡ atomJudged Γ vs (own (Decode.permitOf k) a b)
+    unfolding atomJudged chainJudged Decode.permitOf isPath
+    chain-judged e = rw e
 
   module _ (Γ : Declarations) (vs : List Variable) (r : TriedAtom) where
     pub access-tried : k < eq-atom → AtomTried Γ vs (own (Decode.permitOf k) a b) r → AtomTried Γ vs (atomOf (atomWord k) a b) r

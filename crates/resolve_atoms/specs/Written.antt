@@ -1,10 +1,10 @@
 -- An atom and a formula of a line, resolved and written.
 use mathlib.Core.Path.{_≡_}
-use mathlib.Core.Bool.{Bool, true, false, cond}
+use mathlib.Core.Bool.{true}
 use mathlib.Core.List.{List, [], _∷_, _++_, map}
 use Prim.Native.Nat.{ℕ, suc, _+_, _≤_, _<_}
 use lib.ListN.{length, getD, drop}
-use Rattle.rules.specs.Base.{Name, all}
+use Rattle.rules.specs.Base.{Name}
 use Rattle.rules.specs.Limits.{work-bytes}
 use Rattle.rules.specs.Syntax.{Atom, Formula}
 use Rattle.rules.specs.Text.{tab, isFormula, formulaOf}
@@ -18,13 +18,16 @@ use Rattle.tables.specs.Stores.{Kept}
 use Rattle.read_scopes.specs.declared.Names.{Names}
 use Rattle.read_scopes.specs.Meanings.{declarationsIn, variablesIn}
 use Rattle.read_types.specs.declared.Member.{Member}
+use Rattle.read_types.specs.declared.Verdict.{Verdict}
+use Rattle.read_types.specs.Verdicts.{lower}
 use Rattle.rules.specs.Syntax.{Program}
 use Rattle.tables.specs.Tables.{Declared}
 use Rattle.write_rows.specs.Holds.{AtomOk, atomOf, Holds, Building}
 use Rattle.resolve_atoms.specs.declared.AtomRow.{AtomRow}
 use Rattle.resolve_atoms.specs.declared.TriedAtom.{TriedAtom}
 use Rattle.resolve_atoms.specs.declared.Put.{Put}
-use Rattle.resolve_atoms.specs.Good.{fitsAtom}
+use Rattle.resolve_atoms.specs.declared.NextAtom.{NextAtom}
+use Rattle.resolve_atoms.specs.Good.{atomJudged, atomsJudged}
 
 -- the kind of `eq` or that of `ne`
 abbrev pub IsRelation : ℕ → Type 0
@@ -35,15 +38,18 @@ pub record Resolved (Γ : Declarations) (vs : List Variable) (x : Atom Name) (r 
   pub is : atomOf (r .kind) (r .left) (r .right) ≡ resolveAtom Γ vs x
   pub ok : AtomOk (r .kind) (r .left) (r .right)
 
--- it has a row just if it passes the tests of 6 and 7
+-- it has a row just if it is good
 unfoldable pub AtomTried : Declarations → List Variable → Atom Name → TriedAtom → Type 0
-AtomTried Γ vs x (TriedAtom.Row r) = (fitsAtom Γ vs x ≡ true) × Resolved Γ vs x r
-AtomTried Γ vs x TriedAtom.Bad = fitsAtom Γ vs x ≡ false
+AtomTried Γ vs x (TriedAtom.Row r) = (atomJudged Γ vs x ≡ Verdict.Good) × Resolved Γ vs x r
+AtomTried Γ vs x (TriedAtom.Bad f) = atomJudged Γ vs x ≡ Verdict.Bad f
+
+unfoldable pub rowIf : Verdict → AtomRow → TriedAtom
+rowIf Verdict.Good r = TriedAtom.Row r
+rowIf (Verdict.Bad f) r = TriedAtom.Bad f
 
 -- the permission of the kind k to what was looked up, if that is good
 unfoldable pub permissionRow : ℕ → Member → TriedAtom
-permissionRow k m =
-    cond (m .good) (TriedAtom.Row (record { kind = k; left = Expr.Path (m .variable) (m .number); right = Expr.Null })) TriedAtom.Bad
+permissionRow k m = rowIf (m .verdict) (record { kind = k; left = Expr.Path (m .variable) (m .number); right = Expr.Null })
 
 -- by the rows of names in w
 abbrev pub AtomTriedIn : List ℕ → List ℕ → Names → Atom Name → TriedAtom → Type 0
@@ -61,27 +67,23 @@ module _ (t w : List ℕ) (c : Names) where
   unfoldable pub formulaAfter : ℕ → Formula ℕ
   formulaAfter r = map (resolveAtom (declarationsIn t w c) (variablesIn t w c)) (formulaOf (more (drop r t)))
 
-  -- all its atoms pass the tests of 6 and 7
-  unfoldable pub fitsAfter : ℕ → Bool
-  fitsAfter r = all (fitsAtom (declarationsIn t w c) (variablesIn t w c)) (formulaOf (more (drop r t)))
+  -- what the tests of 6 and 7 say of its atoms
+  unfoldable pub judgedAfter : ℕ → Verdict
+  judgedAfter r = atomsJudged (declarationsIn t w c) (variablesIn t w c) (formulaOf (more (drop r t)))
 
-  -- the atom after r ends at e, and is written as the atom n
-  pub record AtomPut (r n : ℕ) (w′ : List ℕ) (e : ℕ) : Type 0 where
+  -- the atom after r is tried, and is written as the atom n if it is good
+  pub record NextTried (r n : ℕ) (w′ : List ℕ) (x : NextAtom) : Type 0 where
     pub atom : Atom ℕ
-    pub low : r < e
-    pub high : e ≤ length t
-    pub form : (m : ℕ) → isFormula (suc m) (more (drop r t)) ≡ isFormula m (more (drop e t))
-    pub fits : fitsAfter r ≡ fitsAfter e
-    pub is : formulaAfter r ≡ atom ∷ formulaAfter e
+    pub low : r < x .end
+    pub high : x .end ≤ length t
+    pub form : (m : ℕ) → isFormula (suc m) (more (drop r t)) ≡ isFormula m (more (drop (x .end) t))
+    pub judged : judgedAfter r ≡ lower (x .verdict) (judgedAfter (x .end))
+    pub is : formulaAfter r ≡ atom ∷ formulaAfter (x .end)
     pub built :
-        (D : Declared) (F : Program) (a : ℕ) (φ : Formula ℕ) → Building D w F a n φ → Building D w′ F a (n + 1) (φ ++ (atom ∷ []))
+        x .verdict ≡ Verdict.Good → (D : Declared) (F : Program) (a : ℕ) (φ : Formula ℕ) → Building D w F a n φ →
+        Building D w′ F a (n + 1) (φ ++ (atom ∷ []))
     pub names : Kept names-at work-bytes w w′
     pub size : length w′ ≡ length w
-
-  -- it is written just if it passes the tests
-  unfoldable pub NextTried : (r n : ℕ) (w′ : List ℕ) → Put → Type 0
-  NextTried r n w′ (Put.Done e) = AtomPut r n w′ e
-  NextTried r n w′ Put.Bad = (fitsAfter r ≡ false) × (w′ ≡ w)
 
   -- the fields after r are a formula of at most so many atoms, and there is room for them from n on
   pub record FormulaFollows (most r n : ℕ) : Type 0 where
@@ -96,11 +98,7 @@ module _ (t w : List ℕ) (c : Names) where
     pub names : Kept names-at work-bytes w w′
     pub size : length w′ ≡ length w
 
-  -- where some atom fails a test, no name is changed
-  abbrev pub Unfit : (r : ℕ) (w′ : List ℕ) → Type 0
-  Unfit r w′ = (fitsAfter r ≡ false) × (Kept names-at work-bytes w w′) × (length w′ ≡ length w)
-
-  -- it is written just if its atoms pass the tests
+  -- it is written just if its atoms are good
   unfoldable pub FormulaTried : (r n : ℕ) (w′ : List ℕ) → Put → Type 0
-  FormulaTried r n w′ (Put.Done m) = (fitsAfter r ≡ true) × FormulaPut r n w′ m
-  FormulaTried r n w′ Put.Bad = Unfit r w′
+  FormulaTried r n w′ (Put.Done m) = (judgedAfter r ≡ Verdict.Good) × FormulaPut r n w′ m
+  FormulaTried r n w′ (Put.Bad f) = (judgedAfter r ≡ Verdict.Bad f) × (length w′ ≡ length w)

@@ -1,6 +1,8 @@
 // The atoms of a line looked up, tested and written.
 use read_scopes::Names;
+use read_types::Fault;
 use read_types::Member;
+use read_types::Verdict;
 use tables::AtomKind;
 use tables::Expr;
 ghost use mathlib.Core.Path.{_≡_};
@@ -21,16 +23,22 @@ pub struct AtomRow {
     pub right: Expr,
 }
 
-// An atom tried: its row, or it fails a test of 6 or 7.
+// An atom tried: its row, or why it is refused.
 pub enum TriedAtom {
     Row(AtomRow),
-    Bad,
+    Bad(Fault),
 }
 
-// What is written: the number after it; nothing of it counts if a test of 6 or 7 fails.
+// An atom of a line tried: where it ends.
+pub struct NextAtom {
+    pub end: usize,
+    pub verdict: Verdict,
+}
+
+// What is written: the number after it; nothing of it counts if it is refused.
 pub enum Put {
     Done(usize),
-    Bad,
+    Bad(Fault),
 }
 
 // ONE ATOM
@@ -39,14 +47,15 @@ pub enum Put {
 fn permission(kind: usize, m: Member) -> TriedAtom
     ensures { λ r. ⌜ r ≡ permissionRow kind m ⌝ }
 {
-    if !m.good {
-        return TriedAtom::Bad;
+    let v = m.verdict;
+    match v {
+        Verdict::Bad(f) => TriedAtom::Bad(f),
+        Verdict::Good => TriedAtom::Row(AtomRow {
+            kind,
+            left: Expr::Path(m.variable, m.number),
+            right: Expr::Null,
+        }),
     }
-    TriedAtom::Row(AtomRow {
-        kind,
-        left: Expr::Path(m.variable, m.number),
-        right: Expr::Null,
-    })
 }
 
 // `eq` or `ne`, by its kind
@@ -56,16 +65,16 @@ fn compared(text: &[u8], work: &[u8], c: Names, kind: usize, a: &[u8], b: &[u8])
 {
     let x = read_types::look(text, work, c, a);
     let y = read_types::look(text, work, c, b);
-    if !x.good {
-        return TriedAtom::Bad;
-    }
-    if !y.good {
-        return TriedAtom::Bad;
+    let p = x.verdict;
+    let q = y.verdict;
+    let v = read_types::lower(p, q);
+    if let Verdict::Bad(f) = v {
+        return TriedAtom::Bad(f);
     }
     let s = x.is;
     let u = y.is;
     if !read_types::agree(text, s, u) {
-        return TriedAtom::Bad;
+        return TriedAtom::Bad(Fault::WrongType);
     }
     let left = x.expr;
     let right = y.expr;
@@ -95,8 +104,8 @@ pub fn resolve_atom(
 
 // THE FORMULA OF A LINE
 
-// Writes the atom after the field that ends at r as the atom n, and gives its end. The first letter of its word tells its row.
-fn put_next_atom(text: &[u8], work: &mut [u8], r: usize, n: usize, c: Names) -> Put
+// Writes the atom after the field that ends at r as the atom n, if it is good. The first letter of its word tells its row.
+fn put_next_atom(text: &[u8], work: &mut [u8], r: usize, n: usize, c: Names) -> NextAtom
     requires { ⌜ AreaFits (now work) c × AtomFollows (now text) r × (n < most-atom-rows) ⌝ }
     ensures { λ e. ⌜ NextTried (now (text .entry)) (now (work .entry)) c r n (now (work .exit)) e ⌝ }
 {
@@ -108,29 +117,41 @@ fn put_next_atom(text: &[u8], work: &mut [u8], r: usize, n: usize, c: Names) -> 
     let i = x + 1;
     let j = y + 1;
     let t = resolve_atom(text, work, c, kind, &text[i..y], &text[j..z]);
-    let TriedAtom::Row(a) = t else {
-        return Put::Bad;
-    };
-    let left = a.left;
-    let right = a.right;
-    write_rows::put_atom(work, n, a.kind, left, right);
-    Put::Done(z)
+    match t {
+        TriedAtom::Bad(f) => NextAtom {
+            end: z,
+            verdict: Verdict::Bad(f),
+        },
+        TriedAtom::Row(a) => {
+            let left = a.left;
+            let right = a.right;
+            write_rows::put_atom(work, n, a.kind, left, right);
+            NextAtom {
+                end: z,
+                verdict: Verdict::Good,
+            }
+        }
+    }
 }
 
-// Writes the formula of the fields after r as the atoms from `first` on, and gives the number after its last.
+// Writes the formula of the fields after `from` as the atoms from `first` on, and gives the number after its last. The atoms after one
+// of a wrong type may name what is not declared.
 pub fn put_formula(text: &[u8], work: &mut [u8], from: usize, first: usize, c: Names) -> Put
     requires { ⌜ AreaFits (now work) c × FormulaFollows (now text) (now work) c most-line-atoms from first ⌝ }
     ensures { λ m. ⌜ FormulaTried (now (text .entry)) (now (work .entry)) c from first (now (work .exit)) m ⌝ }
 {
     let mut r = from;
     let mut n = first;
+    let mut v = Verdict::Good;
     while read_bytes::byte_at(text, r) == b'\t' {
         let p = put_next_atom(text, work, r, n, c);
-        let Put::Done(e) = p else {
-            return Put::Bad;
-        };
-        r = e;
+        let u = p.verdict;
+        v = read_types::lower(v, u);
+        r = p.end;
         n += 1;
     }
-    Put::Done(n)
+    match v {
+        Verdict::Good => Put::Done(n),
+        Verdict::Bad(f) => Put::Bad(f),
+    }
 }

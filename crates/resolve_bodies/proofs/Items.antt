@@ -35,11 +35,13 @@ use Rattle.rules.specs.Syntax.{Program}
 use Rattle.rules.specs.Reading.{withItem}
 use Rattle.write_rows.specs.Holds.{Holds}
 use Rattle.resolve_pass.specs.declared.Pass.{Pass}
-use Rattle.resolve_pass.specs.Passes.{counts, after, withBlock, namesAfter, seenBy, hasAtoms, atomsAtMost, isFramed, statedFormula, framedFormula, item, Stands, lineAfter, isGood, isGoodHere, BadLine}
+use Rattle.resolve_pass.specs.Passes.{counts, after, withBlock, namesAfter, seenBy, hasAtoms, atomsAtMost, isFramed, statedFormula, framedFormula, item, Stands, lineAfter, lineJudged, judgedHere, BadLine}
 use Rattle.read_declarations.specs.Declares.{lineWith}
 use Rattle.resolve_atoms.specs.declared.Put.{Put}
-use Rattle.resolve_atoms.specs.Written.{formulaAfter, fitsAfter, FormulaFollows, Unfit}
-use Rattle.resolve_atoms.proofs.Goods.{formula-good}
+use Rattle.resolve_atoms.specs.Written.{formulaAfter, judgedAfter, FormulaFollows}
+use Rattle.read_types.specs.declared.Fault.{Fault}
+use Rattle.read_types.specs.declared.Verdict.{Verdict}
+use Rattle.resolve_atoms.proofs.Goods.{formula-judged}
 use Rattle.write_plain.specs.Plain.{isPlain, PlainFollows, PlainPut, PlainTried}
 use Rattle.write_formulas.specs.Claims.{isClaim, hasCondition, loopWith, claimOf, ClaimFollows, ClaimPut, HeaderPut, ClaimTried, HeaderTried}
 use Rattle.write_formulas.proofs.Claims.{claim-cases, some-atoms, formula-few}
@@ -319,9 +321,9 @@ module _ {t w : List ℕ} {p : Pass} {k r : ℕ} (x : Follows t w p k r) where
       formed-as : isFormed (form K .operands) (form K .tail) ws ≡ true
       formed-as = subst (λ K. isFormed (form K .operands) (form K .tail) ws ≡ true) e (x .formed)
 
-      good-as : isGoodHere t w p (lineAfter t r k) ≡ isGood (declarationsIn t w c) (variablesIn t w c) S (lineWith K ws)
-      unfolding seenBy declarationsIn isGoodHere
-      good-as = λ j. isGood (declarationsIn t w (sym g j)) (variablesIn t w (sym g j)) S (lineWith (e j) ws)
+      judged-as : judgedHere t w p (lineAfter t r k) ≡ lineJudged (declarationsIn t w c) (variablesIn t w c) S (lineWith K ws)
+      unfolding seenBy declarationsIn judgedHere
+      judged-as = λ j. lineJudged (declarationsIn t w (sym g j)) (variablesIn t w (sym g j)) S (lineWith (e j) ws)
 
       item-as : item t w p (lineAfter t r k) ≡ itemOf (declarationsIn t w c) (variablesIn t w c) K (lineWith K ws)
       unfolding seenBy declarationsIn
@@ -339,10 +341,10 @@ module _ {t w : List ℕ} {p : Pass} {k r : ℕ} (x : Follows t w p k r) where
       unfolding isFormed
       tail-formed o = sym (ap (λ os. isFormed os (form K .tail) ws) o) ∙ formed-as
 
-      -- a formula is good just if its atoms are
-      pub formula-here : form K .operands ≡ [] → isGoodHere t w p (lineAfter t r k) ≡ fitsAfter t w c r
-      unfolding isGood fitsAfter
-      formula-here o = good-as ∙ formula-good (declarationsIn t w c) (variablesIn t w c) S (lineWith K ws) o
+      -- of a formula, what is said of its atoms
+      pub formula-here : form K .operands ≡ [] → judgedHere t w p (lineAfter t r k) ≡ judgedAfter t w c r
+      unfolding lineJudged judgedAfter
+      formula-here o = judged-as ∙ formula-judged (declarationsIn t w c) (variablesIn t w c) S (lineWith K ws) o
 
     pub side-follows : (a : Statement) (e : kindNumbered k ≡ statement a) → hasAtoms (statement a) ≡ true → SideFollows a t r (p .atoms)
     side-follows a e h =
@@ -468,45 +470,38 @@ module _ {t w : List ℕ} {p : Pass} {k r : ℕ} (x : Follows t w p k r) {c : Na
       (a : Statement) (e : kindNumbered k ≡ statement a) → hasAtoms (statement a) ≡ true → isFramed (statement a) ≡ false → (v : List ℕ) (y : Put) →
       SideTried a t w c r (p .rows) (p .atoms) (p .line + 1) v y → ItemTried t w p (lineAfter t r k) v y
   unfolding SideTried ItemTried
-  side-tried a e h n v (Put.Done m) y = (good-as x g (statement a) e ∙ y .0 (S x), side-put a e h n (y .1))
-  side-tried a e h n v Put.Bad y = record { bad = good-as x g (statement a) e ∙ y .0 (S x); names = y .1; size = y .2 }
+  side-tried a e h n v (Put.Done m) y = (judged-as x g (statement a) e ∙ y .0 (S x), side-put a e h n (y .1))
+  side-tried a e h n v (Put.Bad f) y = (judged-as x g (statement a) e ∙ y .0 (S x), y .1)
 
   pub plain-tried :
-      IsStatementNumber k → (k ≡ 17 → ⊥) → (k ≡ 21 → ⊥) → (v : List ℕ) (b : Bool) (z : Put) → z ≡ doneIf b (p .atoms) →
+      IsStatementNumber k → (k ≡ 17 → ⊥) → (k ≡ 21 → ⊥) → (v : List ℕ) (b : Verdict) (z : Put) → z ≡ doneIf b (p .atoms) →
       PlainTried t w c k r (p .rows) (p .line + 1) v b → ItemTried t w p (lineAfter t r k) v z
   unfolding PlainTried ItemTried doneIf
-  plain-tried h n m v true z i y =
-      subst (ItemTried t w p (lineAfter t r k) v) (sym i) (good-as x g (kindNumbered k) refl ∙ y .0 (S x), plain-put h n m (y .1))
-  plain-tried h n m v false z i y =
-      subst (ItemTried t w p (lineAfter t r k) v) (sym i)
-      (record {
-        bad = good-as x g (kindNumbered k) refl ∙ y .0 (S x);
-        names = subst (Kept names-at work-bytes w) (sym (y .1)) (λ j a b. refl);
-        size = ap length (y .1);
-      })
-
-  unfit : {K : Kind} {z : Formula ℕ → Item} → Formulaic K z → kindNumbered k ≡ K → {v : List ℕ} → Unfit t w c r v → BadLine t w p (lineAfter t r k) v
-  unfit {K} f e y = record { bad = formula-here x g K e (f .operands) ∙ y .0; names = y .1; size = y .2 }
+  plain-tried h n m v Verdict.Good z i y =
+      subst (ItemTried t w p (lineAfter t r k) v) (sym i) (judged-as x g (kindNumbered k) refl ∙ y .0 (S x), plain-put h n m (y .1))
+  plain-tried h n m v (Verdict.Bad f) z i y =
+      subst (ItemTried t w p (lineAfter t r k) v) (sym i) (judged-as x g (kindNumbered k) refl ∙ y .0 (S x), ap length (y .1))
 
   pub claim-tried :
       isClaim k ≡ true → (v : List ℕ) (y : Put) → ClaimTried t w c k r (p .rows) (p .atoms) (p .line + 1) v y → ItemTried t w p (lineAfter t r k) v y
   unfolding ClaimTried ItemTried
   claim-tried i v (Put.Done m) y = (formula-here x g (kindNumbered k) refl (claim-is k i .operands) ∙ y .0, claim-put i (y .1))
-  claim-tried i v Put.Bad y = unfit (claim-is k i) refl y
+  claim-tried i v (Put.Bad f) y = (formula-here x g (kindNumbered k) refl (claim-is k i .operands) ∙ y .0, y .1)
 
   pub header-tried :
       {K : Kind} {z : Formula ℕ → Item} → Formulaic K z → kindNumbered k ≡ K → (n : ℕ) → suc n ≡ after (p .above .methods) → (v : List ℕ) (y : Put) →
       HeaderTried z t w c r n (p .atoms) v y → ItemTried t w p (lineAfter t r k) v y
   unfolding HeaderTried ItemTried
   header-tried {K} f e n l v (Put.Done m) y = (formula-here x g K e (f .operands) ∙ y .0, header-put f e n l (y .1))
-  header-tried f e n l v Put.Bad y = unfit f e y
+  header-tried {K} f e n l v (Put.Bad b) y = (formula-here x g K e (f .operands) ∙ y .0, y .1)
 
 -- BY ITS CASES
 module _ {t w : List ℕ} {p : Pass} {l : Line} {v : List ℕ} {y : Put} (x : ItemTried t w p l v y) where
-  pub item-done : (m : ℕ) → y ≡ Put.Done m → (isGoodHere t w p l ≡ true) × ItemPut t w p l v m
+  pub item-done : (m : ℕ) → y ≡ Put.Done m → (judgedHere t w p l ≡ Verdict.Good) × ItemPut t w p l v m
   unfolding ItemTried
   item-done m e = subst (ItemTried t w p l v) e x
 
-  pub item-bad : y ≡ Put.Bad → BadLine t w p l v
-  unfolding ItemTried
-  item-bad e = subst (ItemTried t w p l v) e x
+pub item-bad :
+    (t w : List ℕ) (p : Pass) (l : Line) (v : List ℕ) (y : Put) (f : Fault) → ItemTried t w p l v y → y ≡ Put.Bad f → BadLine t w p l v f
+unfolding ItemTried
+item-bad t w p l v y f x e = subst (ItemTried t w p l v) e x

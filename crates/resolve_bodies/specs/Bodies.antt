@@ -1,6 +1,6 @@
 -- A line that writes a statement or a formula of a method: what it needs, and what it writes.
 use mathlib.Core.Path.{_≡_}
-use mathlib.Core.Bool.{Bool, true, cond}
+use mathlib.Core.Bool.{true}
 use mathlib.Core.List.{List}
 use Prim.Native.Nat.{ℕ, suc, _+_, _-_, _≤_, _<_}
 use lib.ListN.{length}
@@ -15,7 +15,8 @@ use Rattle.rules.specs.Reading.{withItem}
 use Rattle.read_declarations.specs.Declares.{FormedAfter}
 use Rattle.write_rows.specs.Holds.{Holds}
 use Rattle.resolve_pass.specs.declared.Pass.{Pass}
-use Rattle.resolve_pass.specs.Passes.{counts, atomsAtMost, isFramed, framedFormula, item, PassFits, Stands, LineRoom, lineAfter, isGoodHere, BadLine}
+use Rattle.resolve_pass.specs.Passes.{counts, atomsAtMost, isFramed, framedFormula, item, PassFits, Stands, LineRoom, lineAfter, judgedHere, BadLine}
+use Rattle.read_types.specs.declared.Verdict.{Verdict}
 use Rattle.resolve_atoms.specs.declared.Put.{Put}
 
 -- the number of `requires` or of `ensures`
@@ -43,9 +44,10 @@ pub record ItemPut (t w : List ℕ) (p : Pass) (l : Line) (w′ : List ℕ) (m :
 
 -- it is written just if it is good
 unfoldable pub ItemTried : (t w : List ℕ) (p : Pass) (l : Line) (w′ : List ℕ) → Put → Type 0
-ItemTried t w p l w′ (Put.Done m) = (isGoodHere t w p l ≡ true) × ItemPut t w p l w′ m
-ItemTried t w p l w′ Put.Bad = BadLine t w p l w′
+ItemTried t w p l w′ (Put.Done m) = (judgedHere t w p l ≡ Verdict.Good) × ItemPut t w p l w′ m
+ItemTried t w p l w′ (Put.Bad f) = BadLine t w p l w′ f
 
--- by whether a row without atoms is
-unfoldable pub doneIf : Bool → ℕ → Put
-doneIf b n = cond b (Put.Done n) Put.Bad
+-- by what is said of a row without atoms
+unfoldable pub doneIf : Verdict → ℕ → Put
+doneIf Verdict.Good n = Put.Done n
+doneIf (Verdict.Bad f) n = Put.Bad f

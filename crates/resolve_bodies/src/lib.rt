@@ -1,5 +1,6 @@
 // Statement lines, `requires` and `ensures` of pass 2.
 use read_scopes::Names;
+use read_types::Verdict;
 use resolve_atoms::Put;
 use resolve_pass::Pass;
 use resolve_pass::TriedLine;
@@ -51,10 +52,13 @@ fn names_after(c: Names, kind: u8) -> Names
     }
 }
 
-fn done_if(b: bool, n: usize) -> Put
-    ensures { λ r. ⌜ r ≡ doneIf b n ⌝ }
+fn done_if(v: Verdict, n: usize) -> Put
+    ensures { λ r. ⌜ r ≡ doneIf v n ⌝ }
 {
-    if b { Put::Done(n) } else { Put::Bad }
+    match v {
+        Verdict::Good => Put::Done(n),
+        Verdict::Bad(f) => Put::Bad(f),
+    }
 }
 
 // Writes the atoms and the row of a statement, if it is good; gives the number after its last atom.
@@ -84,21 +88,23 @@ pub fn put_statement(text: &[u8], work: &mut [u8], p: Pass, kind: u8, r: usize) 
     ensures { λ q. ⌜ LineTried (now (text .entry)) (now (work .entry)) p (lineAfter (now (text .entry)) r kind) (now (work .exit)) q ⌝ }
 {
     let t = put_row(text, work, p, kind, r);
-    let Put::Done(atoms) = t else {
-        return TriedLine::Bad;
-    };
-    let before = p.names;
-    let names = names_after(before, kind);
-    let above = p.above;
-    TriedLine::On(Pass {
-        names,
-        above,
-        rows: p.rows + 1,
-        atoms,
-        main: p.main,
-        line: p.line + 1,
-        unframed: p.unframed,
-    })
+    match t {
+        Put::Bad(f) => TriedLine::Bad(f),
+        Put::Done(atoms) => {
+            let before = p.names;
+            let names = names_after(before, kind);
+            let above = p.above;
+            TriedLine::On(Pass {
+                names,
+                above,
+                rows: p.rows + 1,
+                atoms,
+                main: p.main,
+                line: p.line + 1,
+                unframed: p.unframed,
+            })
+        }
+    }
 }
 
 // Writes the atoms of the requires or the ensures of the last method, if they are good; gives the number after the last of them.
@@ -124,18 +130,20 @@ pub fn put_header(text: &[u8], work: &mut [u8], p: Pass, kind: u8, r: usize) -> 
     ensures { λ q. ⌜ LineTried (now (text .entry)) (now (work .entry)) p (lineAfter (now (text .entry)) r kind) (now (work .exit)) q ⌝ }
 {
     let t = put_formula(text, work, p, kind, r);
-    let Put::Done(atoms) = t else {
-        return TriedLine::Bad;
-    };
-    let names = p.names;
-    let above = p.above;
-    TriedLine::On(Pass {
-        names,
-        above,
-        rows: p.rows,
-        atoms,
-        main: p.main,
-        line: p.line + 1,
-        unframed: p.unframed,
-    })
+    match t {
+        Put::Bad(f) => TriedLine::Bad(f),
+        Put::Done(atoms) => {
+            let names = p.names;
+            let above = p.above;
+            TriedLine::On(Pass {
+                names,
+                above,
+                rows: p.rows,
+                atoms,
+                main: p.main,
+                line: p.line + 1,
+                unframed: p.unframed,
+            })
+        }
+    }
 }

@@ -1,4 +1,4 @@
--- When `var`, `field` and `method` lines are good.
+-- What the tests of numbers 6, 7 and 9 say of `class`, `main`, `var`, `field` and `method` lines.
 use mathlib.Core.Path.{_≡_, refl, sym, ap, subst, _∙_}
 use mathlib.Core.Bool.{Bool, true, false, _&&_}
 use mathlib.Core.List.{List, [], _∷_, map}
@@ -9,7 +9,7 @@ use Rattle.rules.specs.Base as Base
 use Rattle.rules.specs.Base.{Name}
 use Rattle.rules.specs.Text as Text
 use Rattle.rules.specs.Grammar as Grammar
-use Rattle.rules.specs.Grammar.{Kind, Operand, Field, Method, Var, nothing, form, isOperand, isFormed, kindNumber}
+use Rattle.rules.specs.Grammar.{Kind, Operand, Class, Field, Method, Main, Var, nothing, form, isOperand, isFormed, kindNumber}
 use Rattle.rules.specs.Scope as Scopes
 use Rattle.rules.specs.Scope.{Declarations, Variable, Scope}
 use Rattle.rules.specs.Names as Known
@@ -22,10 +22,13 @@ use Rattle.tables.specs.Decode.{run}
 use Rattle.read_names.specs.Rows.{nameIn, entryOf}
 use Rattle.read_scopes.specs.Meanings.{declarationsIn, blockIn, variablesIn, scopeIn}
 use Rattle.read_lookups.specs.LookUps.{isNew}
+use Rattle.read_types.specs.declared.Fault.{Fault}
+use Rattle.read_types.specs.declared.Verdict.{Verdict}
+use Rattle.read_types.specs.Verdicts.{test, judged}
 use Rattle.read_declarations.specs.Declares.{lineWith, MethodRow, methodEntry}
 use Rattle.resolve_pass.specs.declared.Pass.{Pass}
 use Rattle.resolve_pass.specs.declared.TriedLine.{TriedLine}
-use Rattle.resolve_pass.specs.Passes.{seenBy, lineAfter, isGood, isGoodHere, LinePut, LineTried}
+use Rattle.resolve_pass.specs.Passes.{seenBy, lineAfter, lineJudged, judgedHere, LinePut, LineTried}
 use Rattle.resolve_headers.specs.Headers.{DeclarationPut}
 use Rattle.resolve_headers.proofs.Lines.{Formed, line-is}
 
@@ -43,47 +46,69 @@ formed-fields [] (w ∷ ws) e = true-false (sym e ∙ eqb·suc-zero (length ws))
 formed-fields (o ∷ os) [] e = true-false (sym e)
 formed-fields (o ∷ os) (w ∷ ws) e = ap (_∷_ w) (formed-fields os ws (both-true (isOperand o w) (isFormed os nothing ws) e .1) ∙ sym (after-first w ws 0 (length os)))
 
--- THE TESTS
-two : (a b : Bool) → ((a && (b && true)) && true) ≡ (a && b)
-two true true = refl
-two true false = refl
+-- THE TESTS: number 6 alone
+
+-- b: all is known
+abbrev named : Bool → Verdict
+named b = test b Fault.Undeclared Verdict.Good
+
+one : (a : Bool) → (a && true) ≡ a
+one true = refl
+one false = refl
+
+two : (a b : Bool) → (a && (b && true)) ≡ (a && b)
+two true b = one b
 two false b = refl
 
-four : (a b c d : Bool) → ((a && (b && (c && (d && true)))) && true) ≡ ((a && b) && (c && d))
+four : (a b c d : Bool) → (a && (b && (c && (d && true)))) ≡ ((a && b) && (c && d))
 four true true c d = two c d
 four true false c d = refl
 four false b c d = refl
 
 module _ (Γ : Declarations) (vs : List Variable) (s : Scope) (ws : List Name) where
+  -- C is new among the classes
+  class-judged : Formed Class ws → lineJudged Γ vs s (lineWith Class ws) ≡ named (isNew (getD ws 0 []) (s .classes))
+  unfolding lineJudged judged test isNew run Grammar.opened Scopes.opened Known.allKnown Known.known Known.allTyped Known.ofClass Known.sidesAgree Known.allAssignable Known.mayBeAssigned Known.callApart Known.openApart Base.all Text.formulaOf
+  class-judged e =
+      ap (λ ws. lineJudged Γ vs s (lineWith Class ws)) (formed-fields (form Class .operands) ws e)
+      ∙ ap named (one (isNew (getD ws 0 []) (s .classes)))
+
+  -- nothing is named
+  main-judged : Formed Main ws → lineJudged Γ vs s (lineWith Main ws) ≡ named true
+  unfolding lineJudged judged test isNew run Grammar.opened Scopes.opened Known.allKnown Known.known Known.allTyped Known.ofClass Known.sidesAgree Known.allAssignable Known.mayBeAssigned Known.callApart Known.openApart Base.all Text.formulaOf
+  main-judged e = ap (λ ws. lineJudged Γ vs s (lineWith Main ws)) (formed-fields (form Main .operands) ws e)
+
   -- T is a type, and x is new among the variables of the block
-  var-good :
+  var-judged :
       Formed Var ws →
-      isGood Γ vs s (lineWith Var ws) ≡ (isType Γ (getD ws 0 []) && isNew (getD ws 1 []) (map (λ v. v .name) (s .block .variables)))
-  unfolding isGood isNew run Grammar.opened Scopes.opened Known.allKnown Known.known Known.allTyped Known.ofClass Known.sidesAgree Known.allAssignable Known.mayBeAssigned Known.callApart Known.openApart Base.all Text.formulaOf
-  var-good e =
-      ap (λ ws. isGood Γ vs s (lineWith Var ws)) (formed-fields (form Var .operands) ws e)
-      ∙ two (isType Γ (getD ws 0 [])) (isNew (getD ws 1 []) (map (λ v. v .name) (s .block .variables)))
+      lineJudged Γ vs s (lineWith Var ws) ≡ named (isType Γ (getD ws 0 []) && isNew (getD ws 1 []) (map (λ v. v .name) (s .block .variables)))
+  unfolding lineJudged judged test isNew run Grammar.opened Scopes.opened Known.allKnown Known.known Known.allTyped Known.ofClass Known.sidesAgree Known.allAssignable Known.mayBeAssigned Known.callApart Known.openApart Base.all Text.formulaOf
+  var-judged e =
+      ap (λ ws. lineJudged Γ vs s (lineWith Var ws)) (formed-fields (form Var .operands) ws e)
+      ∙ ap named (two (isType Γ (getD ws 0 [])) (isNew (getD ws 1 []) (map (λ v. v .name) (s .block .variables))))
 
   -- T is a type, and f is new among the fields of the class
-  field-good :
+  field-judged :
       Formed Field ws →
-      isGood Γ vs s (lineWith Field ws) ≡ (isType Γ (getD ws 0 []) && isNew (getD ws 1 []) (s .members .fields))
-  unfolding isGood isNew run Grammar.opened Scopes.opened Known.allKnown Known.known Known.allTyped Known.ofClass Known.sidesAgree Known.allAssignable Known.mayBeAssigned Known.callApart Known.openApart Base.all Text.formulaOf
-  field-good e =
-      ap (λ ws. isGood Γ vs s (lineWith Field ws)) (formed-fields (form Field .operands) ws e)
-      ∙ two (isType Γ (getD ws 0 [])) (isNew (getD ws 1 []) (s .members .fields))
+      lineJudged Γ vs s (lineWith Field ws) ≡ named (isType Γ (getD ws 0 []) && isNew (getD ws 1 []) (s .members .fields))
+  unfolding lineJudged judged test isNew run Grammar.opened Scopes.opened Known.allKnown Known.known Known.allTyped Known.ofClass Known.sidesAgree Known.allAssignable Known.mayBeAssigned Known.callApart Known.openApart Base.all Text.formulaOf
+  field-judged e =
+      ap (λ ws. lineJudged Γ vs s (lineWith Field ws)) (formed-fields (form Field .operands) ws e)
+      ∙ ap named (two (isType Γ (getD ws 0 [])) (isNew (getD ws 1 []) (s .members .fields)))
 
   -- both types are, m is new among the methods of the class, and w among the variables
-  method-good :
+  method-judged :
       Formed Method ws →
-      isGood Γ vs s (lineWith Method ws)
-      ≡ ((isType Γ (getD ws 0 []) && isNew (getD ws 1 []) (s .members .methods))
+      lineJudged Γ vs s (lineWith Method ws)
+      ≡ named
+      ((isType Γ (getD ws 0 []) && isNew (getD ws 1 []) (s .members .methods))
       && (isType Γ (getD ws 2 []) && isNew (getD ws 3 []) (map (λ v. v .name) (s .block .variables))))
-  unfolding isGood isNew run Grammar.opened Scopes.opened Known.allKnown Known.known Known.allTyped Known.ofClass Known.sidesAgree Known.allAssignable Known.mayBeAssigned Known.callApart Known.openApart Base.all Text.formulaOf
-  method-good e =
-      ap (λ ws. isGood Γ vs s (lineWith Method ws)) (formed-fields (form Method .operands) ws e)
-      ∙ four (isType Γ (getD ws 0 [])) (isNew (getD ws 1 []) (s .members .methods)) (isType Γ (getD ws 2 []))
-      (isNew (getD ws 3 []) (map (λ v. v .name) (s .block .variables)))
+  unfolding lineJudged judged test isNew run Grammar.opened Scopes.opened Known.allKnown Known.known Known.allTyped Known.ofClass Known.sidesAgree Known.allAssignable Known.mayBeAssigned Known.callApart Known.openApart Base.all Text.formulaOf
+  method-judged e =
+      ap (λ ws. lineJudged Γ vs s (lineWith Method ws)) (formed-fields (form Method .operands) ws e)
+      ∙ ap named
+      (four (isType Γ (getD ws 0 [])) (isNew (getD ws 1 []) (s .members .methods)) (isType Γ (getD ws 2 []))
+      (isNew (getD ws 3 []) (map (λ v. v .name) (s .block .variables))))
 
 -- AS THE LINE STANDS IN THE TEXT: ws are its fields, and b is what is found of their places
 module _ (t w : List ℕ) (p : Pass) (ws : List Name) (b : Bool) where
@@ -97,16 +122,22 @@ module _ (t w : List ℕ) (p : Pass) (ws : List Name) (b : Bool) where
   abbrev variables : List Name
   variables = map (λ v. v .name) (blockIn t w (p .names) .variables)
 
-  abbrev pub IsGood : Kind → Type 0
-  IsGood k = b ≡ isGood Γ (variablesIn t w (seenBy k (p .names))) above (lineWith k ws)
+  abbrev pub Judged : Kind → Type 0
+  Judged k = lineJudged Γ (variablesIn t w (seenBy k (p .names))) above (lineWith k ws) ≡ named b
+
+  pub class-test : (s : Span) → nameIn t s ≡ getD ws 0 [] → Formed Class ws → b ≡ isNew (nameIn t s) (above .classes) → Judged Class
+  class-test s name f e = class-judged _ _ _ ws f ∙ ap named (sym (e ∙ ap (λ x. isNew x (above .classes)) name))
+
+  pub main-test : Formed Main ws → b ≡ true → Judged Main
+  main-test f e = main-judged _ _ _ ws f ∙ ap named (sym e)
 
   module _ (g s : Span) (type : nameIn t g ≡ getD ws 0 []) (name : nameIn t s ≡ getD ws 1 []) where
-    pub var-test : Formed Var ws → b ≡ (isType Γ (nameIn t g) && isNew (nameIn t s) variables) → IsGood Var
+    pub var-test : Formed Var ws → b ≡ (isType Γ (nameIn t g) && isNew (nameIn t s) variables) → Judged Var
     unfolding scopeIn
-    var-test f e = e ∙ ((λ j. isType Γ (type j) && isNew (name j) variables) ∙ sym (var-good _ _ _ ws f))
+    var-test f e = var-judged _ _ _ ws f ∙ ap named (sym (e ∙ (λ j. isType Γ (type j) && isNew (name j) variables)))
 
-    pub field-test : Formed Field ws → b ≡ (isType Γ (nameIn t g) && isNew (nameIn t s) (above .members .fields)) → IsGood Field
-    field-test f e = e ∙ ((λ j. isType Γ (type j) && isNew (name j) (above .members .fields)) ∙ sym (field-good _ _ _ ws f))
+    pub field-test : Formed Field ws → b ≡ (isType Γ (nameIn t g) && isNew (nameIn t s) (above .members .fields)) → Judged Field
+    field-test f e = field-judged _ _ _ ws f ∙ ap named (sym (e ∙ (λ j. isType Γ (type j) && isNew (name j) (above .members .fields))))
 
     -- the name of a field that passes
     pub new-field :
@@ -121,27 +152,29 @@ module _ (t w : List ℕ) (p : Pass) (ws : List Name) (b : Bool) where
       b
       ≡ ((isType Γ (nameIn t (m .gives)) && isNew (nameIn t (m .name)) (above .members .methods))
       && (isType Γ (nameIn t (m .takes)) && isNew (nameIn t s) variables)) →
-      IsGood Method
+      Judged Method
   unfolding scopeIn entryOf methodEntry
   method-test s x name f e =
-      e
-      ∙ ((λ j.
+      method-judged _ _ _ ws f
+      ∙ ap named
+      (sym
+      (e
+      ∙ (λ j.
       (isType Γ (x .is j .gives) && isNew (x .is j .name) (above .members .methods))
-      && (isType Γ (x .is j .takes) && isNew (name j) variables))
-      ∙ sym (method-good _ _ _ ws f))
+      && (isType Γ (x .is j .takes) && isNew (name j) variables))))
 
 -- The line of the kind k, which has the number n, is tried.
-module _ (t w : List ℕ) (p : Pass) (r : ℕ) (k : Kind) {n : ℕ} (e : n ≡ kindNumber k) {b : Bool} (is : IsGood t w p (more (drop r t)) b k) where
-  good-here : isGoodHere t w p (lineAfter t r n) ≡ b
-  unfolding isGoodHere
-  good-here = ap (isGoodHere t w p) (line-is k e) ∙ sym is
+module _ (t w : List ℕ) (p : Pass) (r : ℕ) (k : Kind) {n : ℕ} (e : n ≡ kindNumber k) (b : Bool) (is : Judged t w p (more (drop r t)) b k) where
+  judged-here : judgedHere t w p (lineAfter t r n) ≡ named b
+  unfolding judgedHere
+  judged-here = ap (judgedHere t w p) (line-is k e) ∙ is
 
   pub put-on :
       b ≡ true → {u : List ℕ} {q : Pass} → DeclarationPut t w p (lineWith k (more (drop r t))) u q →
       LineTried t w p (lineAfter t r n) u (TriedLine.On q)
-  unfolding LineTried
-  put-on f {u} {q} x = (good-here ∙ f, (subst (λ l. LinePut t w p l u q) (sym (line-is k e)) (x .put), x .unframed))
+  unfolding LineTried test
+  put-on f {u} {q} x = (judged-here ∙ ap named f, (subst (λ l. LinePut t w p l u q) (sym (line-is k e)) (x .put), x .unframed))
 
-  pub put-bad : b ≡ false → LineTried t w p (lineAfter t r n) w TriedLine.Bad
-  unfolding LineTried
-  put-bad f = record { bad = good-here ∙ f; names = λ j x y. refl; size = refl }
+  pub put-bad : b ≡ false → LineTried t w p (lineAfter t r n) w (TriedLine.Bad Fault.Undeclared)
+  unfolding LineTried test
+  put-bad f = (judged-here ∙ ap named f, refl)

@@ -1,4 +1,4 @@
--- Lines that declare and add no statement row: `class` and `main`; and `field`, `method` and `var`, which are tried.
+-- Lines that declare and add no statement row: `class`, `main`, `field`, `method` and `var`.
 use mathlib.Core.Path.{_≡_}
 use mathlib.Core.Bool.{Bool, _||_}
 use mathlib.Core.List.{List}

@@ -2,6 +2,7 @@
 use read_scopes::Above;
 use read_scopes::Names;
 use read_scopes::Range;
+use read_types::Fault;
 use resolve_pass::Pass;
 use resolve_pass::TriedLine;
 use rules::Kind;
@@ -9,14 +10,14 @@ ghost use mathlib.Core.Path.{_≡_};
 ghost use mathlib.Core.Bool.{true};
 ghost use Prim.Native.Nat.{_≤_, _<_};
 ghost use lib.ListN.{length};
-ghost use Rattle.rules.specs.Limits.{work-bytes, most-bytes, most-classes};
-ghost use Rattle.rules.specs.Grammar.{Class, Field, Method, Var, field-kind, method-kind, var-kind};
+ghost use Rattle.rules.specs.Limits.{most-bytes};
+ghost use Rattle.rules.specs.Grammar.{Class, Field, Method, Var, class-kind, field-kind, method-kind, var-kind};
 ghost use Rattle.tables.specs.Numbers.{half-values};
 ghost use Rattle.read_scopes.specs.Meanings.{AboveFits};
+ghost use Rattle.read_grammar.specs.Rows.{kindNumbered};
 ghost use Rattle.read_declarations.specs.Declares.{FormedAfter};
-ghost use Rattle.write_rows.specs.Puts.{putClass};
 ghost use Rattle.resolve_pass.specs.Passes.{PassFits, LineRoom, after, oneMore, withBlock, aboveAfter, lineAfter, LineTried};
-ghost use Rattle.resolve_headers.specs.Headers.{isDeclaration, Held, moved, DeclarationPut};
+ghost use Rattle.resolve_headers.specs.Headers.{isDeclaration, Held, moved};
 
 // THE COUNTS
 
@@ -112,15 +113,20 @@ fn in_method(c: Names) -> Names
 
 // ONE LINE: its word ends at r
 
-// `class C`: the next class. Its name stands in its row.
-fn put_class(work: &mut [u8], p: Pass) -> Pass
-    requires { ⌜ (length (now work) ≡ work-bytes) × AboveFits (p .above) × (p .above .classes < most-classes) × (p .line < most-bytes) ⌝ }
-    ensures { λ q. ⌜ (q ≡ moved p (p .names) (aboveAfter Class (p .above)) (p .main)) × (now (work .exit) ≡ putClass (now (work .entry)) (p .above .classes)) ⌝ }
+// `class C`: the next class, if C is a new name. Its name stands in its row.
+fn put_class(text: &[u8], work: &mut [u8], p: Pass, r: usize) -> TriedLine
+    requires { ⌜ PassFits (now text) (now work) p × (r ≤ length (now text)) × FormedAfter (now text) r Class × LineRoom (now text) (now work) p (lineAfter (now text) r class-kind) ⌝ }
+    ensures { λ q. ⌜ LineTried (now (text .entry)) (now (work .entry)) p (lineAfter (now (text .entry)) r class-kind) (now (work .exit)) q ⌝ }
 {
     let names = p.names;
     let above = p.above;
+    let s = read_declarations::span_after(text, r);
+    let name = read_names::name_in(text, s);
+    if !read_lookups::is_new(text, work, read_names::CLASSES, above.classes, name) {
+        return TriedLine::Bad(Fault::Undeclared);
+    }
     write_rows::put_class_row(work, above.classes);
-    moved(p, names, with_class(above), p.main)
+    TriedLine::On(moved(p, names, with_class(above), p.main))
 }
 
 // `main`: its first row is the next.
@@ -133,14 +139,14 @@ fn put_main(p: Pass) -> Pass
     moved(p, names, above, p.rows)
 }
 
-// Puts the line of this kind (`class` or `main`) whose word ends at r.
-pub fn put_declaration(text: &[u8], work: &mut [u8], p: Pass, kind: u8, r: usize) -> Pass
-    requires { ⌜ PassFits (now text) (now work) p × (isDeclaration kind ≡ true) × LineRoom (now text) (now work) p (lineAfter (now text) r kind) ⌝ }
-    ensures { λ q. ⌜ DeclarationPut (now (text .entry)) (now (work .entry)) p (lineAfter (now (text .entry)) r kind) (now (work .exit)) q ⌝ }
+// Tries the line of this kind (`class` or `main`) whose word ends at r.
+pub fn put_declaration(text: &[u8], work: &mut [u8], p: Pass, kind: u8, r: usize) -> TriedLine
+    requires { ⌜ PassFits (now text) (now work) p × (r ≤ length (now text)) × FormedAfter (now text) r (kindNumbered kind) × LineRoom (now text) (now work) p (lineAfter (now text) r kind) × (isDeclaration kind ≡ true) ⌝ }
+    ensures { λ q. ⌜ LineTried (now (text .entry)) (now (work .entry)) p (lineAfter (now (text .entry)) r kind) (now (work .exit)) q ⌝ }
 {
     match kind {
-        Kind::CLASS => put_class(work, p),
-        _ => put_main(p),
+        Kind::CLASS => put_class(text, work, p, r),
+        _ => TriedLine::On(put_main(p)),
     }
 }
 
@@ -154,7 +160,7 @@ pub fn put_field(text: &[u8], work: &mut [u8], p: Pass, r: usize) -> TriedLine
     let gives = read_declarations::span_after(text, r);
     let name = read_declarations::span_after(text, gives.start + gives.len);
     if !read_lookups::may_add_field(text, work, names, above, name, gives) {
-        return TriedLine::Bad;
+        return TriedLine::Bad(Fault::Undeclared);
     }
     let int = read_lookups::is_int(text, gives);
     let f = read_lookups::field_number(text, work, names, read_names::name_in(text, name));
@@ -176,7 +182,7 @@ pub fn put_method(text: &[u8], work: &mut [u8], p: Pass, r: usize) -> TriedLine
     let takes = m.takes;
     let parameter = read_declarations::span_after(text, takes.start + takes.len);
     if !read_lookups::may_add_method(text, work, names, above, m, parameter) {
-        return TriedLine::Bad;
+        return TriedLine::Bad(Fault::Undeclared);
     }
     let class = read_names::name_at(text, work, owner);
     write_rows::put_method_row(work, after(methods), p.rows);
@@ -194,7 +200,7 @@ pub fn put_var(text: &[u8], work: &mut [u8], p: Pass, r: usize) -> TriedLine
     let gives = read_declarations::span_after(text, r);
     let name = read_declarations::span_after(text, gives.start + gives.len);
     if !read_lookups::may_declare(text, work, names, name, gives) {
-        return TriedLine::Bad;
+        return TriedLine::Bad(Fault::Undeclared);
     }
     let grown = read_scopes::put_local(text, work, names, name, gives);
     TriedLine::On(moved(p, grown, above, p.main))

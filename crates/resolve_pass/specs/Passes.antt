@@ -24,6 +24,9 @@ use Rattle.read_scopes.specs.declared.Above.{Above}
 use Rattle.read_scopes.specs.declared.Range.{Range}
 use Rattle.read_names.specs.Rows.{entryAt, classes-first, fields-first, methods-first}
 use Rattle.read_scopes.specs.Meanings.{NamesFit, AboveFits, declarationsIn, variablesIn, scopeIn, moreLocals}
+use Rattle.read_types.specs.declared.Fault.{Fault}
+use Rattle.read_types.specs.declared.Verdict.{Verdict}
+use Rattle.read_types.specs.Verdicts.{judged}
 use Rattle.read_declarations.specs.Declares.{lineWith}
 use Rattle.rules.specs.Syntax.{Program}
 use Rattle.rules.specs.Reading.{withItem}
@@ -162,15 +165,15 @@ pub record Stands (t w : List ℕ) (p : Pass) (F : Program) : Type 0 where
 abbrev pub lineAfter : List ℕ → ℕ → ℕ → Line
 lineAfter t r k = lineWith (kindNumbered k) (more (drop r t))
 
--- it passes the tests of numbers 6, 7 and 9
-unfoldable pub isGood : Declarations → List Variable → Scope → Line → Bool
-isGood Γ vs s l = allKnown Γ vs s l && (allTyped Γ vs l && allAssignable vs l)
+-- what the tests of numbers 6, 7 and 9 say of it
+unfoldable pub lineJudged : Declarations → List Variable → Scope → Line → Verdict
+lineJudged Γ vs s l = judged (allKnown Γ vs s l) (allTyped Γ vs l) (allAssignable vs l)
 
 module _ (t w : List ℕ) (p : Pass) (l : Line) where
   -- as it stands in the text
-  unfoldable pub isGoodHere : Bool
-  isGoodHere =
-      isGood (declarationsIn t w (p .names)) (variablesIn t w (seenBy (l .kind) (p .names))) (scopeIn t w (p .names) (p .above)) l
+  unfoldable pub judgedHere : Verdict
+  judgedHere =
+      lineJudged (declarationsIn t w (p .names)) (variablesIn t w (seenBy (l .kind) (p .names))) (scopeIn t w (p .names) (p .above)) l
 
   -- there is room for what it adds, and what it declares is the next row of its kind
   pub record LineRoom : Type 0 where
@@ -219,16 +222,14 @@ pub record LinePut (t w : List ℕ) (p : Pass) (l : Line) (w′ : List ℕ) (q :
   pub lines : Kept lines-at work-bytes w w′
   pub size : length w′ ≡ length w
 
--- a line that is not good leaves no name changed
-pub record BadLine (t w : List ℕ) (p : Pass) (l : Line) (w′ : List ℕ) : Type 0 where
-  pub bad : isGoodHere t w p l ≡ false
-  pub names : Kept names-at work-bytes w w′
-  pub size : length w′ ≡ length w
+-- a line that is refused
+abbrev pub BadLine : (t w : List ℕ) (p : Pass) (l : Line) (w′ : List ℕ) → Fault → Type 0
+BadLine t w p l w′ f = (judgedHere t w p l ≡ Verdict.Bad f) × (length w′ ≡ length w)
 
 -- a line is put in the tables just if it is good
 unfoldable pub LineTried : (t w : List ℕ) (p : Pass) (l : Line) (w′ : List ℕ) → TriedLine → Type 0
-LineTried t w p l w′ (TriedLine.On q) = (isGoodHere t w p l ≡ true) × (LinePut t w p l w′ q × (q .unframed ≡ p .unframed))
-LineTried t w p l w′ TriedLine.Bad = BadLine t w p l w′
+LineTried t w p l w′ (TriedLine.On q) = (judgedHere t w p l ≡ Verdict.Good) × (LinePut t w p l w′ q × (q .unframed ≡ p .unframed))
+LineTried t w p l w′ (TriedLine.Bad f) = BadLine t w p l w′ f
 
 -- the first line that number 10 refuses, or 0, after one line more
 unfoldable pub unframedAfter : ℕ → ℕ → Item → ℕ

@@ -1,6 +1,7 @@
 // How far pass 2 is.
 use read_scopes::Above;
 use read_scopes::Names;
+use read_types::Fault;
 
 // How far pass 2 is: what a line may name, what the lines above declare, the rows and atoms that are written, main's first row, how
 // many lines are above, and the first of them that number 10 refuses, or 0.
@@ -14,8 +15,8 @@ pub struct Pass {
     pub unframed: usize,
 }
 
-// What trying a line gives: it is in the tables, or it is not good.
+// What trying a line gives: it is in the tables, or it is refused.
 pub enum TriedLine {
     On(Pass),
-    Bad,
+    Bad(Fault),
 }

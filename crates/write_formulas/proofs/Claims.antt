@@ -34,7 +34,9 @@ use Rattle.write_rows.proofs.Methods.{requires-written, ensures-written, requir
 use Rattle.write_rows.specs.Holds.{Holds, Building}
 use Rattle.write_rows.proofs.Rows.{no-field, row-written, row-kept, row-names, row-length, row-bytes}
 use Rattle.resolve_atoms.specs.declared.Put.{Put}
-use Rattle.resolve_atoms.specs.Written.{formulaAfter, fitsAfter, FormulaFollows, FormulaPut, FormulaTried, Unfit}
+use Rattle.read_types.specs.declared.Fault.{Fault}
+use Rattle.read_types.specs.declared.Verdict.{Verdict}
+use Rattle.resolve_atoms.specs.Written.{formulaAfter, judgedAfter, FormulaFollows, FormulaPut, FormulaTried}
 use Rattle.write_formulas.specs.Claims.{isClaim, hasCondition, loopWith, claimOf, ownFirst, claimRow, ClaimFollows, ClaimPut, HeaderPut, ClaimTried, HeaderTried}
 
 pub claim-cases : (k : ℕ) → isClaim k ≡ true → (k ≡ 13) ⊎ ((k ≡ 14) ⊎ ((k ≡ 17) ⊎ (k ≡ 21)))
@@ -275,31 +277,31 @@ module _ {t w : List ℕ} {c : Names} {r n m : ℕ} (x : FormulaFollows t w c mo
 
 -- A FORMULA THAT WAS TRIED
 module _ (t w : List ℕ) (c : Names) (r n : ℕ) (u : List ℕ) (q : Put) (y : FormulaTried t w c r n u q) where
-  pub tried-done : (m : ℕ) → q ≡ Put.Done m → (fitsAfter t w c r ≡ true) × FormulaPut t w c r n u m
+  pub tried-done : (m : ℕ) → q ≡ Put.Done m → (judgedAfter t w c r ≡ Verdict.Good) × FormulaPut t w c r n u m
   unfolding FormulaTried
   tried-done m i = subst (FormulaTried t w c r n u) i y
 
-  module _ (i : q ≡ Put.Bad) where
-    pub tried-bad : Unfit t w c r u
+  module _ {f : Fault} (i : q ≡ Put.Bad f) where
+    tried-bad : (judgedAfter t w c r ≡ Verdict.Bad f) × (length u ≡ length w)
     unfolding FormulaTried
     tried-bad = subst (FormulaTried t w c r n u) i y
 
-    pub claim-bad : (k j l : ℕ) → ClaimTried t w c k r j n l u Put.Bad
+    pub claim-bad : (k j l : ℕ) → ClaimTried t w c k r j n l u (Put.Bad f)
     unfolding ClaimTried
     claim-bad k j l = tried-bad
 
-    pub header-bad : (item : Formula ℕ → Item) (m : ℕ) → HeaderTried item t w c r m n u Put.Bad
+    pub header-bad : (item : Formula ℕ → Item) (m : ℕ) → HeaderTried item t w c r m n u (Put.Bad f)
     unfolding HeaderTried
     header-bad item m = tried-bad
 
 pub claim-done :
-    (t w : List ℕ) (c : Names) (k r i n l : ℕ) (v : List ℕ) (m : ℕ) → fitsAfter t w c r ≡ true → ClaimPut t w c k r i n l v m →
+    (t w : List ℕ) (c : Names) (k r i n l : ℕ) (v : List ℕ) (m : ℕ) → judgedAfter t w c r ≡ Verdict.Good → ClaimPut t w c k r i n l v m →
     ClaimTried t w c k r i n l v (Put.Done m)
 unfolding ClaimTried
 claim-done t w c k r i n l v m f x = (f, x)
 
 pub header-done :
-    (item : Formula ℕ → Item) (t w : List ℕ) (c : Names) (r m n : ℕ) (v : List ℕ) (e : ℕ) → fitsAfter t w c r ≡ true →
+    (item : Formula ℕ → Item) (t w : List ℕ) (c : Names) (r m n : ℕ) (v : List ℕ) (e : ℕ) → judgedAfter t w c r ≡ Verdict.Good →
     HeaderPut item t w c r m n v e → HeaderTried item t w c r m n v (Put.Done e)
 unfolding HeaderTried
 header-done item t w c r m n v e f x = (f, x)

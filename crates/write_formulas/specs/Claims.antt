@@ -18,8 +18,9 @@ use Rattle.rules.specs.Reading.{withItem}
 use Rattle.tables.specs.declared.Operands.{Operands}
 use Rattle.tables.specs.Tables.{Declared}
 use Rattle.write_rows.specs.Holds.{Holds}
+use Rattle.read_types.specs.declared.Verdict.{Verdict}
 use Rattle.resolve_atoms.specs.declared.Put.{Put}
-use Rattle.resolve_atoms.specs.Written.{formulaAfter, fitsAfter, FormulaFollows, Unfit}
+use Rattle.resolve_atoms.specs.Written.{formulaAfter, judgedAfter, FormulaFollows}
 
 -- by the number of the kind
 unfoldable pub isClaim : ℕ → Bool
@@ -78,11 +79,11 @@ pub record HeaderPut (item : Formula ℕ → Item) (t w : List ℕ) (c : Names) 
   pub names : Kept names-at work-bytes w w′
   pub size : length w′ ≡ length w
 
--- It is written just if its atoms pass the tests of 6 and 7.
+-- It is written just if its atoms are good.
 unfoldable pub ClaimTried : (t w : List ℕ) (c : Names) (k r i n l : ℕ) (w′ : List ℕ) → Put → Type 0
-ClaimTried t w c k r i n l w′ (Put.Done m) = (fitsAfter t w c r ≡ true) × ClaimPut t w c k r i n l w′ m
-ClaimTried t w c k r i n l w′ Put.Bad = Unfit t w c r w′
+ClaimTried t w c k r i n l w′ (Put.Done m) = (judgedAfter t w c r ≡ Verdict.Good) × ClaimPut t w c k r i n l w′ m
+ClaimTried t w c k r i n l w′ (Put.Bad f) = (judgedAfter t w c r ≡ Verdict.Bad f) × (length w′ ≡ length w)
 
 unfoldable pub HeaderTried : (item : Formula ℕ → Item) (t w : List ℕ) (c : Names) (r m n : ℕ) (w′ : List ℕ) → Put → Type 0
-HeaderTried item t w c r m n w′ (Put.Done e) = (fitsAfter t w c r ≡ true) × HeaderPut item t w c r m n w′ e
-HeaderTried item t w c r m n w′ Put.Bad = Unfit t w c r w′
+HeaderTried item t w c r m n w′ (Put.Done e) = (judgedAfter t w c r ≡ Verdict.Good) × HeaderPut item t w c r m n w′ e
+HeaderTried item t w c r m n w′ (Put.Bad f) = (judgedAfter t w c r ≡ Verdict.Bad f) × (length w′ ≡ length w)

@@ -37,25 +37,27 @@ pub fn put_claim(
     ensures { λ m. ⌜ ClaimTried (now (text .entry)) (now (work .entry)) c kind r i n line (now (work .exit)) m ⌝ }
 {
     let p = resolve_atoms::put_formula(text, work, r, n, c);
-    let Put::Done(m) = p else {
-        return Put::Bad;
-    };
-    let first = formula_first(kind, n);
-    write_rows::put_row(
-        work,
-        i,
-        Operands {
-            kind,
-            x: 0,
-            y: 0,
-            z: 0,
-            member: 0,
-            atoms: m - first,
-            first,
-            line,
-        },
-    );
-    Put::Done(m)
+    match p {
+        Put::Bad(f) => Put::Bad(f),
+        Put::Done(m) => {
+            let first = formula_first(kind, n);
+            write_rows::put_row(
+                work,
+                i,
+                Operands {
+                    kind,
+                    x: 0,
+                    y: 0,
+                    z: 0,
+                    member: 0,
+                    atoms: m - first,
+                    first,
+                    line,
+                },
+            );
+            Put::Done(m)
+        }
+    }
 }
 
 // Writes the formula after r as the atoms from n on, and as the requires of the method m.
@@ -64,11 +66,13 @@ pub fn put_requires(text: &[u8], work: &mut [u8], c: Names, r: usize, m: usize, 
     ensures { λ e. ⌜ HeaderTried aRequires (now (text .entry)) (now (work .entry)) c r m n (now (work .exit)) e ⌝ }
 {
     let p = resolve_atoms::put_formula(text, work, r, n, c);
-    let Put::Done(e) = p else {
-        return Put::Bad;
-    };
-    write_rows::put_requires(work, m, n, e - n);
-    Put::Done(e)
+    match p {
+        Put::Bad(f) => Put::Bad(f),
+        Put::Done(e) => {
+            write_rows::put_requires(work, m, n, e - n);
+            Put::Done(e)
+        }
+    }
 }
 
 // Writes it as the ensures of the method m.
@@ -77,9 +81,11 @@ pub fn put_ensures(text: &[u8], work: &mut [u8], c: Names, r: usize, m: usize, n
     ensures { λ e. ⌜ HeaderTried anEnsures (now (text .entry)) (now (work .entry)) c r m n (now (work .exit)) e ⌝ }
 {
     let p = resolve_atoms::put_formula(text, work, r, n, c);
-    let Put::Done(e) = p else {
-        return Put::Bad;
-    };
-    write_rows::put_ensures(work, m, n, e - n);
-    Put::Done(e)
+    match p {
+        Put::Bad(f) => Put::Bad(f),
+        Put::Done(e) => {
+            write_rows::put_ensures(work, m, n, e - n);
+            Put::Done(e)
+        }
+    }
 }

@@ -28,11 +28,13 @@ use Rattle.write_rows.specs.Puts.{putRow, RowBytes}
 use Rattle.tables.specs.Tables.{OperandsFit}
 use Rattle.write_rows.specs.Holds.{Holds}
 use Rattle.write_rows.proofs.Rows.{row-bytes, row-names, row-length}
-use Rattle.resolve_pass.specs.Passes.{counts, isGood}
+use Rattle.read_types.specs.declared.Fault.{Fault}
+use Rattle.read_types.specs.declared.Verdict.{Verdict}
+use Rattle.resolve_pass.specs.Passes.{counts, lineJudged}
 use Rattle.read_declarations.specs.Declares.{lineWith}
 use Rattle.write_plain.specs.declared.TriedRow.{TriedRow}
-use Rattle.write_plain.specs.Plain.{setRow, newRow, callRow, returnRow, computeRow, openRow, shutRow, plainRow, plainGood, RowTried, isPlain, PlainFollows, PlainPut, PlainTried}
-use Rattle.write_plain.proofs.Goods.{set-good, new-good, call-good, return-good, else-good, end-good, again-good, compute-good, open-good, shut-good, computing}
+use Rattle.write_plain.specs.Plain.{setRow, newRow, callRow, returnRow, computeRow, openRow, shutRow, plainRow, plainJudged, RowTried, isPlain, PlainFollows, PlainPut, PlainTried}
+use Rattle.write_plain.proofs.Goods.{set-judged, new-judged, call-judged, return-judged, else-judged, end-judged, again-judged, compute-judged, open-judged, shut-judged, computing}
 use Rattle.write_plain.proofs.Rows.{set-ok, new-ok, call-ok, return-ok, compute-ok, open-ok, shut-ok, empty-ok, set-written, new-written, call-written, return-written, compute-written, else-written, end-written, again-written, open-written, shut-written}
 
 either : {A : Type 0} (k m : ℕ) (b : Bool) → (eqb k m || b) ≡ true → (k ≡ m → A) → (b ≡ true → A) → A
@@ -68,39 +70,39 @@ module _ (t w : List ℕ) (c : Counts.Names) (fits : NamesFit c) (l : ℕ) (ws :
   rowOf k = plainRow Γ vs ws l k
 
   abbrev GoodOf : ℕ → Type 0
-  GoodOf k = plainGood Γ vs ws k ≡ true
+  GoodOf k = plainJudged Γ vs ws k ≡ Verdict.Good
 
   -- the tests of a line that has its form
-  pub plain-good :
+  pub plain-judged :
       (s : Scope) (k : ℕ) → isPlain k ≡ true → isFormed (form (kindNumbered k) .operands) (form (kindNumbered k) .tail) ws ≡ true →
-      isGood Γ vs s (lineWith (kindNumbered k) ws) ≡ plainGood Γ vs ws k
-  unfolding kindNumbered kindAt Base.withDefault Base.first Grammar.kindNumber Grammar.statementNumber isComputing plainGood
-  plain-good s k e =
+      lineJudged Γ vs s (lineWith (kindNumbered k) ws) ≡ plainJudged Γ vs ws k
+  unfolding kindNumbered kindAt Base.withDefault Base.first Grammar.kindNumber Grammar.statementNumber isComputing plainJudged
+  plain-judged s k e =
       plain-kinds
       (λ k.
       isFormed (form (kindNumbered k) .operands) (form (kindNumbered k) .tail) ws ≡ true →
-      isGood Γ vs s (lineWith (kindNumbered k) ws) ≡ plainGood Γ vs ws k)
+      lineJudged Γ vs s (lineWith (kindNumbered k) ws) ≡ plainJudged Γ vs ws k)
       k e
-      (set-good Γ vs s ws)
-      (new-good Γ vs s ws)
-      (call-good Γ vs s ws)
-      (return-good Γ vs s ws)
-      (else-good Γ vs s ws)
-      (end-good Γ vs s ws)
-      (again-good Γ vs s ws)
-      (open-good Γ vs s ws)
-      (shut-good Γ vs s ws)
-      (λ o. computes-good o)
+      (set-judged Γ vs s ws)
+      (new-judged Γ vs s ws)
+      (call-judged Γ vs s ws)
+      (return-judged Γ vs s ws)
+      (else-judged Γ vs s ws)
+      (end-judged Γ vs s ws)
+      (again-judged Γ vs s ws)
+      (open-judged Γ vs s ws)
+      (shut-judged Γ vs s ws)
+      (λ o. computes-judged o)
     where
-      computes-good :
+      computes-judged :
           (o : Operation) →
           isFormed (form (kindNumbered (statementNumber (computing o))) .operands) (form (kindNumbered (statementNumber (computing o))) .tail) ws ≡ true →
-          isGood Γ vs s (lineWith (kindNumbered (statementNumber (computing o))) ws) ≡ plainGood Γ vs ws (statementNumber (computing o))
-      computes-good sum = compute-good Γ vs s sum ws
-      computes-good difference = compute-good Γ vs s difference ws
+          lineJudged Γ vs s (lineWith (kindNumbered (statementNumber (computing o))) ws) ≡ plainJudged Γ vs ws (statementNumber (computing o))
+      computes-judged sum = compute-judged Γ vs s sum ws
+      computes-judged difference = compute-judged Γ vs s difference ws
 
   pub plain-bytes : (k : ℕ) → isPlain k ≡ true → l < 65536 → GoodOf k → RowBytes (rowOf k)
-  unfolding plainRow plainGood setRow newRow callRow returnRow computeRow openRow shutRow isComputing statementNumber
+  unfolding plainRow plainJudged setRow newRow callRow returnRow computeRow openRow shutRow isComputing statementNumber
   plain-bytes k e line =
       let small : (r : Operands) → r .member < 256 → r .line < 65536 → OperandsFit (counts c) 0 r → RowBytes r =
       λ r. row-bytes (counts c) 0 r (omega arith) in
@@ -126,7 +128,7 @@ module _ (t w : List ℕ) (c : Counts.Names) (fits : NamesFit c) (l : ℕ) (ws :
       (F : Program) (n : ℕ) → length (F .rows) < most-statements → Holds (counts c) w F n → (k : ℕ) → isPlain k ≡ true → GoodOf k →
       Holds (counts c) (putRow w (length (F .rows)) (rowOf k))
       (withItem F l (itemOf Γ vs (kindNumbered k) (lineWith (kindNumbered k) ws))) n
-  unfolding kindNumbered kindAt Base.withDefault Base.first Grammar.kindNumber Grammar.statementNumber isComputing plainRow plainGood
+  unfolding kindNumbered kindAt Base.withDefault Base.first Grammar.kindNumber Grammar.statementNumber isComputing plainRow plainJudged
   plain-written F n room h k e =
       plain-kinds
       (λ k.
@@ -154,20 +156,20 @@ module _ (t w : List ℕ) (c : Counts.Names) (fits : NamesFit c) (l : ℕ) (ws :
       computes-written difference = compute-written t w c fits n l F room h difference ws
 
 -- THE ANSWER
-pub row-is : (b : Bool) (o p : Operands) (q : TriedRow) → q ≡ TriedRow.Row p → RowTried b o q → (b ≡ true) × (p ≡ o)
+pub row-is : (v : Verdict) (o p : Operands) (q : TriedRow) → q ≡ TriedRow.Row p → RowTried v o q → (v ≡ Verdict.Good) × (p ≡ o)
 unfolding RowTried
-row-is b o p q e h = subst (RowTried b o) e h
+row-is v o p q e h = subst (RowTried v o) e h
 
-pub row-none : (b : Bool) (o : Operands) (q : TriedRow) → q ≡ TriedRow.Bad → RowTried b o q → b ≡ false
+pub row-none : (v : Verdict) (o : Operands) (q : TriedRow) (f : Fault) → q ≡ TriedRow.Bad f → RowTried v o q → v ≡ Verdict.Bad f
 unfolding RowTried
-row-none b o q e h = subst (RowTried b o) e h
+row-none v o q f e h = subst (RowTried v o) e h
 
 module _ (t w : List ℕ) (c : Counts.Names) (k r i l : ℕ) (v : List ℕ) (ready : AreaFits w c) (x : PlainFollows t k r) where
   abbrev fields : List Name
   fields = more (drop r t)
 
   plain-put :
-      i < most-statements → plainGood (declarationsIn t w c) (variablesIn t w c) fields k ≡ true →
+      i < most-statements → plainJudged (declarationsIn t w c) (variablesIn t w c) fields k ≡ Verdict.Good →
       v ≡ putRow w i (plainRow (declarationsIn t w c) (variablesIn t w c) fields l k) → PlainPut t w c k r i l v
   plain-put room good e =
       let o : Operands = plainRow (declarationsIn t w c) (variablesIn t w c) fields l k in
@@ -184,11 +186,13 @@ module _ (t w : List ℕ) (c : Counts.Names) (k r i l : ℕ) (v : List ℕ) (rea
       }
 
   pub plain-done :
-      i < most-statements → plainGood (declarationsIn t w c) (variablesIn t w c) fields k ≡ true →
-      v ≡ putRow w i (plainRow (declarationsIn t w c) (variablesIn t w c) fields l k) → PlainTried t w c k r i l v true
+      i < most-statements → plainJudged (declarationsIn t w c) (variablesIn t w c) fields k ≡ Verdict.Good →
+      v ≡ putRow w i (plainRow (declarationsIn t w c) (variablesIn t w c) fields l k) → PlainTried t w c k r i l v Verdict.Good
   unfolding PlainTried
-  plain-done room good e = (λ s. plain-good t w c (ready .fits) l fields s k (x .kind) (x .formed) ∙ good, plain-put room good e)
+  plain-done room good e = (λ s. plain-judged t w c (ready .fits) l fields s k (x .kind) (x .formed) ∙ good, plain-put room good e)
 
-  pub plain-bad : plainGood (declarationsIn t w c) (variablesIn t w c) fields k ≡ false → v ≡ w → PlainTried t w c k r i l v false
+  pub plain-bad :
+      (f : Fault) → plainJudged (declarationsIn t w c) (variablesIn t w c) fields k ≡ Verdict.Bad f → v ≡ w →
+      PlainTried t w c k r i l v (Verdict.Bad f)
   unfolding PlainTried
-  plain-bad bad e = (λ s. plain-good t w c (ready .fits) l fields s k (x .kind) (x .formed) ∙ bad, e)
+  plain-bad f bad e = (λ s. plain-judged t w c (ready .fits) l fields s k (x .kind) (x .formed) ∙ bad, e)

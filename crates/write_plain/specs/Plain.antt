@@ -1,17 +1,17 @@
 -- Rows of the statements that have no atoms: `set`, `new`, `call`, `return`, `else`, `end`, `add`, `sub`, `again`, `open`, `shut`.
 use mathlib.Core.Path.{_≡_}
-use mathlib.Core.Bool.{Bool, true, false, not, cond, _&&_, _||_}
+use mathlib.Core.Bool.{Bool, true, not, cond, _&&_, _||_}
 use mathlib.Core.List.{List, []}
 use Prim.Native.Nat.{ℕ, _≤_}
 use lib.Dec.{eqb, ltb}
 use lib.ListN.{length, getD, drop}
-use Rattle.rules.specs.Base.{Name, bytes, is, eqName}
+use Rattle.rules.specs.Base.{Name, bytes, is, eqName, any}
 use Rattle.rules.specs.Limits.{work-bytes}
 use Rattle.rules.specs.Syntax.{path}
 use Rattle.rules.specs.Text.{reserved}
 use Rattle.rules.specs.Grammar.{isComputing, set-kind, new-kind, call-kind, return-kind, else-kind, end-kind, again-kind, open-kind, shut-kind}
 use Rattle.rules.specs.Scope.{MethodDeclaration, Declarations, Variable, Scope}
-use Rattle.rules.specs.Names.{isLocal, inScope, isInt, isClass, knownMethod, variableNumber, variableType, fieldNumber, fieldType, classNumber, methodNumber, methodOfClass}
+use Rattle.rules.specs.Names.{isLocal, inScope, isInt, isMethodOf, noDeclaration, variableNumber, variableType, fieldNumber, fieldType, classNumber, methodNumber, methodOfClass}
 use Rattle.rules.specs.Items.{itemOf}
 use Rattle.read_fields.specs.Cuts.{more}
 use Rattle.read_grammar.specs.Rows.{kindNumbered}
@@ -23,13 +23,16 @@ use Rattle.read_scopes.specs.declared.Names.{Names}
 use Rattle.read_scopes.specs.Meanings.{declarationsIn, variablesIn}
 use Rattle.read_lookups.specs.LookUps.{typeOf}
 use Rattle.read_types.specs.declared.Member.{Member}
-use Rattle.read_types.specs.Types.{good, chainGood}
+use Rattle.read_types.specs.declared.Fault.{Fault}
+use Rattle.read_types.specs.declared.Verdict.{Verdict}
+use Rattle.read_types.specs.Verdicts.{test, andThen}
+use Rattle.read_types.specs.Types.{exprJudged, chainJudged}
 use Rattle.rules.specs.Syntax.{Program}
 use Rattle.rules.specs.Reading.{withItem}
 use Rattle.tables.specs.declared.Operands.{Operands}
 use Rattle.write_rows.specs.Holds.{Holds}
 use Rattle.read_declarations.specs.Declares.{FormedAfter}
-use Rattle.resolve_pass.specs.Passes.{counts, lineAfter, isGood}
+use Rattle.resolve_pass.specs.Passes.{counts, lineAfter, lineJudged}
 use Rattle.write_plain.specs.declared.TriedRow.{TriedRow}
 
 -- a row without atoms, of this line
@@ -76,33 +79,34 @@ module _ (Γ : Declarations) (vs : List Variable) (ws : List Name) (l : ℕ) whe
 -- THE TESTS OF NUMBERS 6, 7 AND 9, by kind, of a line of these fields that has its form
 
 module _ (Γ : Declarations) (vs : List Variable) (ws : List Name) where
-  -- x.f and y are known and of one type
-  unfoldable pub setGood : Bool
-  setGood =
+  -- x.f and y are of one type
+  unfoldable pub setJudged : Verdict
+  setJudged =
       let x : Name = getD ws 0 [] in
       let f : Name = getD ws 1 [] in
       let y : Name = getD ws 2 [] in
-      good Γ vs (path x f) && (inScope vs y && eqName (fieldType Γ (variableType vs x) f) (variableType vs y))
+      test (inScope vs y) Fault.Undeclared
+      (andThen (exprJudged Γ vs (path x f))
+      (test (eqName (fieldType Γ (variableType vs x) f) (variableType vs y)) Fault.WrongType Verdict.Good))
 
   -- "the x of `new` is of class C"
-  unfoldable pub newGood : Bool
-  newGood =
+  unfoldable pub newJudged : Verdict
+  newJudged =
       let x : Name = getD ws 0 [] in
       let C : Name = getD ws 1 [] in
-      isLocal (variableNumber vs x) && (isClass Γ C && eqName (variableType vs x) C)
-
-  -- y and z are known; "`call x` with x the same name as y or z" is refused
-  unfoldable pub callApart : Bool
-  callApart =
-      let x : ℕ = variableNumber vs (getD ws 0 []) in
-      let y : Name = getD ws 1 [] in
-      let z : Name = getD ws 3 [] in
-      isLocal x
-      && (inScope vs y && (inScope vs z && (not (eqb x (variableNumber vs y)) && not (eqb x (variableNumber vs z)))))
+      test (inScope vs x) Fault.Undeclared
+      (test (not (reserved C)) Fault.Undeclared
+      (test (any (eqName C) (Γ .classes)) Fault.Undeclared
+      (test (eqName (variableType vs x) C) Fault.WrongType (test (isLocal (variableNumber vs x)) Fault.WrongTarget Verdict.Good))))
 
   -- y is of a class that has the method m
-  unfoldable pub callKnown : Bool
-  callKnown = not (isInt vs (getD ws 1 [])) && knownMethod Γ vs (getD ws 1 []) (getD ws 2 [])
+  unfoldable pub methodJudged : Verdict
+  methodJudged =
+      let y : Name = getD ws 1 [] in
+      let m : Name = getD ws 2 [] in
+      test (not (reserved m)) Fault.Undeclared
+      (test (not (isInt vs y)) Fault.WrongType
+      (test (any (isMethodOf Γ (variableType vs y) m) (Γ .methods)) Fault.Undeclared Verdict.Good))
 
   -- its result is of x's type, its parameter of z's
   unfoldable pub callAgrees : Bool
@@ -110,87 +114,131 @@ module _ (Γ : Declarations) (vs : List Variable) (ws : List Name) where
       let m : MethodDeclaration = methodOfClass Γ (variableType vs (getD ws 1 [])) (getD ws 2 []) in
       eqName (variableType vs (getD ws 0 [])) (m .result) && eqName (variableType vs (getD ws 3 [])) (m .parameterType)
 
-  unfoldable pub callGood : Bool
-  callGood = callApart && (callKnown && callAgrees)
+  -- "`call x` with x the same name as y or z" is refused
+  unfoldable pub targetJudged : Verdict
+  targetJudged =
+      let x : ℕ = variableNumber vs (getD ws 0 []) in
+      test (isLocal x) Fault.WrongTarget
+      (test (not (eqb x (variableNumber vs (getD ws 1 [])))) Fault.WrongTarget
+      (test (not (eqb x (variableNumber vs (getD ws 3 [])))) Fault.WrongTarget Verdict.Good))
+
+  unfoldable pub callJudged : Verdict
+  callJudged =
+      test (inScope vs (getD ws 0 []) && (inScope vs (getD ws 1 []) && inScope vs (getD ws 3 []))) Fault.Undeclared
+      (andThen methodJudged (test callAgrees Fault.WrongType targetJudged))
 
   -- x is of the type of `result`
-  unfoldable pub returnGood : Bool
-  returnGood =
+  unfoldable pub returnJudged : Verdict
+  returnJudged =
       let x : Name = getD ws 0 [] in
-      inScope vs x && eqName (variableType vs x) (variableType vs (bytes "result"))
+      test (inScope vs x) Fault.Undeclared
+      (test (eqName (variableType vs x) (variableType vs (bytes "result"))) Fault.WrongType Verdict.Good)
 
-  -- all three are int, and x is a local
-  unfoldable pub computeGood : Bool
-  computeGood = isLocal (variableNumber vs (getD ws 0 [])) && (isInt vs (getD ws 0 []) && (isInt vs (getD ws 1 []) && isInt vs (getD ws 2 [])))
+  -- all three are int
+  unfoldable pub computeJudged : Verdict
+  computeJudged =
+      test (inScope vs (getD ws 0 []) && (inScope vs (getD ws 1 []) && inScope vs (getD ws 2 []))) Fault.Undeclared
+      (test (isInt vs (getD ws 0 [])) Fault.WrongType
+      (test (isInt vs (getD ws 1 [])) Fault.WrongType
+      (test (isInt vs (getD ws 2 [])) Fault.WrongType
+      (test (isLocal (variableNumber vs (getD ws 0 []))) Fault.WrongTarget Verdict.Good))))
 
   -- y is a local of x's class, and not x
-  unfoldable pub openGood : Bool
-  openGood =
+  unfoldable pub openJudged : Verdict
+  openJudged =
       let y : Name = getD ws 0 [] in
       let x : Name = getD ws 1 [] in
-      chainGood Γ vs x (getD ws 2 [])
-      && (isLocal (variableNumber vs y)
-      && (not (eqb (variableNumber vs y) (variableNumber vs x)) && eqName (variableType vs y) (variableType vs x)))
+      test (inScope vs y) Fault.Undeclared
+      (andThen (chainJudged Γ vs x (getD ws 2 []))
+      (test (eqName (variableType vs y) (variableType vs x)) Fault.WrongType
+      (test (isLocal (variableNumber vs y)) Fault.WrongTarget
+      (test (not (eqb (variableNumber vs y) (variableNumber vs x))) Fault.WrongTarget Verdict.Good))))
 
-  unfoldable pub shutGood : Bool
-  shutGood = chainGood Γ vs (getD ws 0 []) (getD ws 1 [])
+  unfoldable pub shutJudged : Verdict
+  shutJudged = chainJudged Γ vs (getD ws 0 []) (getD ws 1 [])
 
   -- by the number of its kind; `else`, `end` and `again` name nothing
-  unfoldable pub plainGood : ℕ → Bool
-  plainGood k =
-      cond (eqb k set-kind) setGood
-      (cond (eqb k new-kind) newGood
-      (cond (eqb k call-kind) callGood
-      (cond (eqb k return-kind) returnGood
-      (cond (isComputing k) computeGood
-      (cond (eqb k open-kind) openGood
-      (cond (eqb k shut-kind) shutGood
-      true))))))
+  unfoldable pub plainJudged : ℕ → Verdict
+  plainJudged k =
+      cond (eqb k set-kind) setJudged
+      (cond (eqb k new-kind) newJudged
+      (cond (eqb k call-kind) callJudged
+      (cond (eqb k return-kind) returnJudged
+      (cond (isComputing k) computeJudged
+      (cond (eqb k open-kind) openJudged
+      (cond (eqb k shut-kind) shutJudged
+      Verdict.Good))))))
 
--- the row o just if the test is passed
-unfoldable pub RowTried : Bool → Operands → TriedRow → Type 0
-RowTried b o (TriedRow.Row r) = (b ≡ true) × (r ≡ o)
-RowTried b o TriedRow.Bad = b ≡ false
+-- the row o just if it is good
+unfoldable pub RowTried : Verdict → Operands → TriedRow → Type 0
+RowTried v o (TriedRow.Row r) = (v ≡ Verdict.Good) × (r ≡ o)
+RowTried v o (TriedRow.Bad f) = v ≡ Verdict.Bad f
 
 -- of the fields after r of the text t, by the rows of names in w: the row just if the line is good
 abbrev pub TriedAfter :
-    List ℕ → List ℕ → Names → ℕ → (Declarations → List Variable → List Name → Bool) →
+    List ℕ → List ℕ → Names → ℕ → (Declarations → List Variable → List Name → Verdict) →
     (Declarations → List Variable → List Name → ℕ → Operands) → ℕ → TriedRow → Type 0
-TriedAfter t w c r good row l o =
-    RowTried (good (declarationsIn t w c) (variablesIn t w c) (more (drop r t)))
+TriedAfter t w c r says row l o =
+    RowTried (says (declarationsIn t w c) (variablesIn t w c) (more (drop r t)))
     (row (declarationsIn t w c) (variablesIn t w c) (more (drop r t)) l) o
 
--- x.f is known, and y a variable of its type
-abbrev pub maySet : List ℕ → List ℕ → Member → ℕ → Bool
-maySet t w x y = x .good && (ltb y frame-variables && eqName (nameIn t (x .is)) (nameIn t (typeOf w y)))
+-- BY WHAT WAS LOOKED UP
+
+-- y is a variable of the type of x.f
+abbrev pub maySet : List ℕ → List ℕ → Member → ℕ → Verdict
+maySet t w x y =
+    test (ltb y frame-variables) Fault.Undeclared
+    (andThen (x .verdict) (test (eqName (nameIn t (x .is)) (nameIn t (typeOf w y))) Fault.WrongType Verdict.Good))
 
 -- x is a local of the class that is named at s and has the number k
-abbrev pub mayHold : List ℕ → List ℕ → Names → ℕ → ℕ → Span → Bool
+abbrev pub mayHold : List ℕ → List ℕ → Names → ℕ → ℕ → Span → Verdict
 mayHold t w c x k s =
-    isLocal x && (not (reserved (nameIn t s)) && (ltb k (c .classes) && eqName (nameIn t (typeOf w x)) (nameIn t s)))
+    test (ltb x frame-variables) Fault.Undeclared
+    (test (not (reserved (nameIn t s))) Fault.Undeclared
+    (test (ltb k (c .classes)) Fault.Undeclared
+    (test (eqName (nameIn t (typeOf w x)) (nameIn t s)) Fault.WrongType (test (isLocal x) Fault.WrongTarget Verdict.Good))))
 
--- x is a local, and y and z are variables and other ones
-abbrev pub mayCall : ℕ → ℕ → ℕ → Bool
-mayCall x y z = isLocal x && (ltb y frame-variables && (ltb z frame-variables && (not (eqb x y) && not (eqb x z))))
+-- all three are variables
+abbrev pub areKnown : ℕ → ℕ → ℕ → Bool
+areKnown x y z = ltb x frame-variables && (ltb y frame-variables && ltb z frame-variables)
 
 -- i, of n methods, is the number of a method named at m of a class
-abbrev pub hasMethod : List ℕ → Span → Span → ℕ → ℕ → Bool
-hasMethod t class m i n = not (is "int" (nameIn t class)) && (not (reserved (nameIn t m)) && ltb i n)
+abbrev pub mayName : List ℕ → Span → Span → ℕ → ℕ → Verdict
+mayName t class m i n =
+    test (not (reserved (nameIn t m))) Fault.Undeclared
+    (test (not (is "int" (nameIn t class))) Fault.WrongType (test (ltb i n) Fault.Undeclared Verdict.Good))
+
+-- x is a local, and neither y nor z
+abbrev pub mayTake : ℕ → ℕ → ℕ → Verdict
+mayTake x y z =
+    test (isLocal x) Fault.WrongTarget (test (not (eqb x y)) Fault.WrongTarget (test (not (eqb x z)) Fault.WrongTarget Verdict.Good))
 
 -- x and z are of the types of the method's result and parameter
 abbrev pub agreeWith : List ℕ → List ℕ → ℕ → ℕ → MethodDeclaration → Bool
 agreeWith t w x z m = eqName (nameIn t (typeOf w x)) (m .result) && eqName (nameIn t (typeOf w z)) (m .parameterType)
 
--- x is a local, and the variables are int
-abbrev pub mayCompute : List ℕ → List ℕ → ℕ → ℕ → ℕ → Bool
-mayCompute t w x y z =
-    isLocal x && (is "int" (nameIn t (typeOf w x)) && (is "int" (nameIn t (typeOf w y)) && is "int" (nameIn t (typeOf w z))))
+-- of y, of this class, the method named at m, which has the number i
+abbrev pub mayCall : List ℕ → List ℕ → Names → ℕ → ℕ → ℕ → Span → Span → ℕ → Verdict
+mayCall t w c x y z class m i =
+    test (areKnown x y z) Fault.Undeclared
+    (andThen (mayName t class m i (c .methods))
+    (test (agreeWith t w x z (getD (declarationsIn t w c .methods) i noDeclaration)) Fault.WrongType (mayTake x y z)))
 
--- x.f may be a chain, and y is a local of x's class, and not x
-abbrev pub mayOpen : List ℕ → List ℕ → Member → ℕ → Bool
+-- the variables are int, and x is a local
+abbrev pub mayCompute : List ℕ → List ℕ → ℕ → ℕ → ℕ → Verdict
+mayCompute t w x y z =
+    test (areKnown x y z) Fault.Undeclared
+    (test (is "int" (nameIn t (typeOf w x))) Fault.WrongType
+    (test (is "int" (nameIn t (typeOf w y))) Fault.WrongType
+    (test (is "int" (nameIn t (typeOf w z))) Fault.WrongType (test (isLocal x) Fault.WrongTarget Verdict.Good))))
+
+-- y is a local of the class of x, which has the chain, and not x
+abbrev pub mayOpen : List ℕ → List ℕ → Member → ℕ → Verdict
 mayOpen t w x y =
-    x .good
-    && (isLocal y && (not (eqb y (x .variable)) && eqName (nameIn t (typeOf w y)) (nameIn t (typeOf w (x .variable)))))
+    test (ltb y frame-variables) Fault.Undeclared
+    (andThen (x .verdict)
+    (test (eqName (nameIn t (typeOf w y)) (nameIn t (typeOf w (x .variable)))) Fault.WrongType
+    (test (isLocal y) Fault.WrongTarget (test (not (eqb y (x .variable))) Fault.WrongTarget Verdict.Good))))
 
 -- by the number of the kind
 unfoldable pub isPlain : ℕ → Bool
@@ -214,8 +262,8 @@ pub record PlainPut (t w : List ℕ) (c : Names) (k r i l : ℕ) (w′ : List �
   pub size : length w′ ≡ length w
 
 -- it is written just if it is good, whatever the scope
-unfoldable pub PlainTried : (t w : List ℕ) (c : Names) (k r i l : ℕ) (w′ : List ℕ) → Bool → Type 0
-PlainTried t w c k r i l w′ true =
-    ((s : Scope) → isGood (declarationsIn t w c) (variablesIn t w c) s (lineAfter t r k) ≡ true) × PlainPut t w c k r i l w′
-PlainTried t w c k r i l w′ false =
-    ((s : Scope) → isGood (declarationsIn t w c) (variablesIn t w c) s (lineAfter t r k) ≡ false) × (w′ ≡ w)
+unfoldable pub PlainTried : (t w : List ℕ) (c : Names) (k r i l : ℕ) (w′ : List ℕ) → Verdict → Type 0
+PlainTried t w c k r i l w′ Verdict.Good =
+    ((s : Scope) → lineJudged (declarationsIn t w c) (variablesIn t w c) s (lineAfter t r k) ≡ Verdict.Good) × PlainPut t w c k r i l w′
+PlainTried t w c k r i l w′ (Verdict.Bad f) =
+    ((s : Scope) → lineJudged (declarationsIn t w c) (variablesIn t w c) s (lineAfter t r k) ≡ Verdict.Bad f) × (w′ ≡ w)

@@ -2,7 +2,9 @@
 use crate::TriedRow;
 use read_names::Span;
 use read_scopes::Names;
+use read_types::Fault;
 use read_types::Member;
+use read_types::Verdict;
 use rules::Kind;
 ghost use mathlib.Core.Path.{_≡_};
 ghost use Prim.Native.Nat.{_≤_};
@@ -12,7 +14,7 @@ ghost use Rattle.tables.specs.Layout.{frame-variables};
 ghost use Rattle.read_names.specs.Rows.{nameIn};
 ghost use Rattle.read_scopes.specs.Meanings.{AreaFits};
 ghost use Rattle.read_types.specs.Types.{ChainIn};
-ghost use Rattle.write_plain.specs.Plain.{openRow, shutRow, openGood, shutGood, TriedAfter, mayOpen};
+ghost use Rattle.write_plain.specs.Plain.{openRow, shutRow, openJudged, shutJudged, TriedAfter, mayOpen};
 
 // `chain x f`, by the places of both names
 fn chain_at(text: &[u8], work: &[u8], c: Names, x: Span, f: Span) -> Member
@@ -28,40 +30,44 @@ fn chain_at(text: &[u8], work: &[u8], c: Names, x: Span, f: Span) -> Member
     )
 }
 
-// Is y a local of x's class, and not x?
-fn open_fits(text: &[u8], work: &[u8], x: Member, y: usize) -> bool
+// May the chain x.f be opened as y?
+fn judge_open(text: &[u8], work: &[u8], x: Member, y: usize) -> Verdict
     requires { ⌜ (length (now work) ≡ work-bytes) × (x .variable ≤ frame-variables) × (y ≤ frame-variables) ⌝ }
     ensures { λ r. ⌜ r ≡ mayOpen (now (text .entry)) (now (work .entry)) x y ⌝ }
 {
-    if !x.good {
-        return false;
+    if read_names::NO_VARIABLE <= y {
+        return Verdict::Bad(Fault::Undeclared);
     }
-    if !crate::is_local(y) {
-        return false;
+    let v = x.verdict;
+    if let Verdict::Bad(f) = v {
+        return Verdict::Bad(f);
     }
-    if y == x.variable {
-        return false;
-    }
-    read_lookups::same_name(
+    if !read_lookups::same_name(
         text,
         read_lookups::type_of(work, y),
         read_lookups::type_of(work, x.variable),
-    )
+    ) {
+        return Verdict::Bad(Fault::WrongType);
+    }
+    if !crate::is_local(y) {
+        return Verdict::Bad(Fault::WrongTarget);
+    }
+    read_types::test(y != x.variable, Fault::WrongTarget)
 }
 
 // `open y x f`, the word of which ends at r
 pub fn open_row(text: &[u8], work: &[u8], c: Names, r: usize, line: usize) -> TriedRow
     requires { ⌜ AreaFits (now work) c × (r ≤ length (now text)) ⌝ }
-    ensures { λ o. ⌜ TriedAfter (now (text .entry)) (now (work .entry)) c r openGood openRow line o ⌝ }
+    ensures { λ o. ⌜ TriedAfter (now (text .entry)) (now (work .entry)) c r openJudged openRow line o ⌝ }
 {
     let a = read_declarations::span_after(text, r);
     let b = read_declarations::span_after(text, a.start + a.len);
     let d = read_declarations::span_after(text, b.start + b.len);
     let y = crate::variable_at(text, work, c, a);
     let x = chain_at(text, work, c, b, d);
-    let good = open_fits(text, work, x, y);
+    let v = judge_open(text, work, x, y);
     crate::row_if(
-        good,
+        v,
         crate::row(Kind::OPEN, y, x.variable, 0, x.number, line),
     )
 }
@@ -69,13 +75,14 @@ pub fn open_row(text: &[u8], work: &[u8], c: Names, r: usize, line: usize) -> Tr
 // `shut x f`
 pub fn shut_row(text: &[u8], work: &[u8], c: Names, r: usize, line: usize) -> TriedRow
     requires { ⌜ AreaFits (now work) c × (r ≤ length (now text)) ⌝ }
-    ensures { λ o. ⌜ TriedAfter (now (text .entry)) (now (work .entry)) c r shutGood shutRow line o ⌝ }
+    ensures { λ o. ⌜ TriedAfter (now (text .entry)) (now (work .entry)) c r shutJudged shutRow line o ⌝ }
 {
     let a = read_declarations::span_after(text, r);
     let b = read_declarations::span_after(text, a.start + a.len);
     let x = chain_at(text, work, c, a, b);
+    let v = x.verdict;
     crate::row_if(
-        x.good,
+        v,
         crate::row(Kind::SHUT, x.variable, 0, 0, x.number, line),
     )
 }

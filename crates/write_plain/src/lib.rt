@@ -3,7 +3,9 @@ mod chains;
 
 use read_names::Span;
 use read_scopes::Names;
+use read_types::Fault;
 use read_types::Member;
+use read_types::Verdict;
 use rules::Kind;
 use tables::Operands;
 ghost use mathlib.Core.Path.{_≡_};
@@ -16,12 +18,12 @@ ghost use Rattle.tables.specs.Layout.{frame-variables};
 ghost use Rattle.read_names.specs.Rows.{nameIn};
 ghost use Rattle.read_scopes.specs.Meanings.{AreaFits, declarationsIn, variablesIn};
 ghost use Rattle.read_lookups.specs.LookUps.{Looked};
-ghost use Rattle.write_plain.specs.Plain.{bare, setRow, newRow, callRow, returnRow, computeRow, plainRow, setGood, newGood, callGood, returnGood, computeGood, plainGood, RowTried, TriedAfter, maySet, mayHold, mayCall, hasMethod, agreeWith, mayCompute, PlainFollows, PlainTried};
+ghost use Rattle.write_plain.specs.Plain.{bare, setRow, newRow, callRow, returnRow, computeRow, plainRow, setJudged, newJudged, callJudged, returnJudged, computeJudged, plainJudged, RowTried, TriedAfter, maySet, mayHold, areKnown, mayName, mayTake, agreeWith, mayCall, mayCompute, PlainFollows, PlainTried};
 
-// The row of a line, if the line is good.
+// The row of a line, or why the line is refused.
 pub enum TriedRow {
     Row(Operands),
-    Bad,
+    Bad(Fault),
 }
 
 // The number of the variable named at a place of the text.
@@ -42,13 +44,13 @@ pub fn is_local(x: usize) -> bool
     x < read_names::RESULT
 }
 
-fn row_if(good: bool, o: Operands) -> TriedRow
-    ensures { λ r. ⌜ RowTried good o r ⌝ }
+fn row_if(v: Verdict, o: Operands) -> TriedRow
+    ensures { λ r. ⌜ RowTried v o r ⌝ }
 {
-    if good {
-        return TriedRow::Row(o);
+    match v {
+        Verdict::Good => TriedRow::Row(o),
+        Verdict::Bad(f) => TriedRow::Bad(f),
     }
-    TriedRow::Bad
 }
 
 fn row(kind: u8, x: usize, y: usize, z: usize, member: usize, line: usize) -> Operands
@@ -66,25 +68,27 @@ fn row(kind: u8, x: usize, y: usize, z: usize, member: usize, line: usize) -> Op
     }
 }
 
-// Are x.f and y, if there is such a variable, of one type?
-fn set_fits(text: &[u8], work: &[u8], x: Member, y: usize) -> bool
+// May x.f be set to y?
+fn judge_set(text: &[u8], work: &[u8], x: Member, y: usize) -> Verdict
     requires { ⌜ (length (now work) ≡ work-bytes) × (y ≤ frame-variables) ⌝ }
     ensures { λ r. ⌜ r ≡ maySet (now (text .entry)) (now (work .entry)) x y ⌝ }
 {
-    if !x.good {
-        return false;
-    }
     if read_names::NO_VARIABLE <= y {
-        return false;
+        return Verdict::Bad(Fault::Undeclared);
+    }
+    let v = x.verdict;
+    if let Verdict::Bad(f) = v {
+        return Verdict::Bad(f);
     }
     let is = x.is;
-    read_lookups::same_name(text, is, read_lookups::type_of(work, y))
+    let same = read_lookups::same_name(text, is, read_lookups::type_of(work, y));
+    read_types::test(same, Fault::WrongType)
 }
 
 // `set x f y`, the word of which ends at r
 fn set_row(text: &[u8], work: &[u8], c: Names, r: usize, line: usize) -> TriedRow
     requires { ⌜ AreaFits (now work) c × (r ≤ length (now text)) ⌝ }
-    ensures { λ o. ⌜ TriedAfter (now (text .entry)) (now (work .entry)) c r setGood setRow line o ⌝ }
+    ensures { λ o. ⌜ TriedAfter (now (text .entry)) (now (work .entry)) c r setJudged setRow line o ⌝ }
 {
     let a = read_declarations::span_after(text, r);
     let b = read_declarations::span_after(text, a.start + a.len);
@@ -97,70 +101,80 @@ fn set_row(text: &[u8], work: &[u8], c: Names, r: usize, line: usize) -> TriedRo
         read_names::name_in(text, b),
     );
     let y = variable_at(text, work, c, d);
-    let good = set_fits(text, work, x, y);
-    row_if(good, row(Kind::SET, x.variable, y, 0, x.number, line))
+    let v = judge_set(text, work, x, y);
+    row_if(v, row(Kind::SET, x.variable, y, 0, x.number, line))
 }
 
-// Is x a local of the class that is named at s and has the number k?
-fn new_fits(text: &[u8], work: &[u8], c: Names, x: usize, k: usize, s: Span) -> bool
+// May x hold a new object of the class that is named at s and has the number k?
+fn judge_new(text: &[u8], work: &[u8], c: Names, x: usize, k: usize, s: Span) -> Verdict
     requires { ⌜ (length (now work) ≡ work-bytes) × (x ≤ frame-variables) ⌝ }
     ensures { λ r. ⌜ r ≡ mayHold (now (text .entry)) (now (work .entry)) c x k s ⌝ }
 {
-    if !is_local(x) {
-        return false;
+    if read_names::NO_VARIABLE <= x {
+        return Verdict::Bad(Fault::Undeclared);
     }
     if read_words::is_reserved(read_names::name_in(text, s)) {
-        return false;
+        return Verdict::Bad(Fault::Undeclared);
     }
     if c.classes <= k {
-        return false;
+        return Verdict::Bad(Fault::Undeclared);
     }
-    read_lookups::same_name(text, read_lookups::type_of(work, x), s)
+    if !read_lookups::same_name(text, read_lookups::type_of(work, x), s) {
+        return Verdict::Bad(Fault::WrongType);
+    }
+    read_types::test(is_local(x), Fault::WrongTarget)
 }
 
 // `new x C`
 fn new_row(text: &[u8], work: &[u8], c: Names, r: usize, line: usize) -> TriedRow
     requires { ⌜ AreaFits (now work) c × (r ≤ length (now text)) ⌝ }
-    ensures { λ o. ⌜ TriedAfter (now (text .entry)) (now (work .entry)) c r newGood newRow line o ⌝ }
+    ensures { λ o. ⌜ TriedAfter (now (text .entry)) (now (work .entry)) c r newJudged newRow line o ⌝ }
 {
     let a = read_declarations::span_after(text, r);
     let b = read_declarations::span_after(text, a.start + a.len);
     let x = variable_at(text, work, c, a);
     let k = read_lookups::class_number(text, work, c, read_names::name_in(text, b));
-    let good = new_fits(text, work, c, x, k, b);
-    row_if(good, row(Kind::NEW, x, 0, 0, k, line))
+    let v = judge_new(text, work, c, x, k, b);
+    row_if(v, row(Kind::NEW, x, 0, 0, k, line))
 }
 
-// Is x a local, and are y and z variables and other ones?
-fn may_call(x: usize, y: usize, z: usize) -> bool
-    ensures { λ r. ⌜ r ≡ mayCall x y z ⌝ }
+// Are x, y and z variables?
+fn are_known(x: usize, y: usize, z: usize) -> bool
+    ensures { λ r. ⌜ r ≡ areKnown x y z ⌝ }
 {
-    if !is_local(x) {
+    if read_names::NO_VARIABLE <= x {
         return false;
     }
     if read_names::NO_VARIABLE <= y {
         return false;
     }
-    if read_names::NO_VARIABLE <= z {
-        return false;
-    }
-    if x == y {
-        return false;
-    }
-    x != z
+    z < read_names::NO_VARIABLE
 }
 
-// Is i, of n methods, the number of a method named at m of a class?
-fn has_method(text: &[u8], class: Span, m: Span, i: usize, n: usize) -> bool
-    ensures { λ r. ⌜ r ≡ hasMethod (now (text .entry)) class m i n ⌝ }
+// May a line name the method named at m of a class, if i, of n methods, is its number?
+fn judge_method(text: &[u8], class: Span, m: Span, i: usize, n: usize) -> Verdict
+    ensures { λ r. ⌜ r ≡ mayName (now (text .entry)) class m i n ⌝ }
 {
-    if read_lookups::is_int(text, class) {
-        return false;
-    }
     if read_words::is_reserved(read_names::name_in(text, m)) {
-        return false;
+        return Verdict::Bad(Fault::Undeclared);
     }
-    i < n
+    if read_lookups::is_int(text, class) {
+        return Verdict::Bad(Fault::WrongType);
+    }
+    read_types::test(i < n, Fault::Undeclared)
+}
+
+// May a call that reads y and z assign to x?
+fn judge_target(x: usize, y: usize, z: usize) -> Verdict
+    ensures { λ r. ⌜ r ≡ mayTake x y z ⌝ }
+{
+    if !is_local(x) {
+        return Verdict::Bad(Fault::WrongTarget);
+    }
+    if x == y {
+        return Verdict::Bad(Fault::WrongTarget);
+    }
+    read_types::test(x != z, Fault::WrongTarget)
 }
 
 // Are x and z of the types of the result and of the parameter of the method i?
@@ -182,10 +196,38 @@ fn call_agrees(text: &[u8], work: &[u8], c: Names, x: usize, z: usize, i: usize)
     false
 }
 
+// May the method named at m, which has the number i, be called of y, of this class?
+fn judge_call(
+    text: &[u8],
+    work: &[u8],
+    c: Names,
+    x: usize,
+    y: usize,
+    z: usize,
+    class: Span,
+    m: Span,
+    i: usize,
+) -> Verdict
+    requires { ⌜ AreaFits (now work) c × (x ≤ frame-variables) × (z ≤ frame-variables) ⌝ }
+    ensures { λ r. ⌜ r ≡ mayCall (now (text .entry)) (now (work .entry)) c x y z class m i ⌝ }
+{
+    if !are_known(x, y, z) {
+        return Verdict::Bad(Fault::Undeclared);
+    }
+    let v = judge_method(text, class, m, i, c.methods);
+    if let Verdict::Bad(f) = v {
+        return Verdict::Bad(f);
+    }
+    if !call_agrees(text, work, c, x, z, i) {
+        return Verdict::Bad(Fault::WrongType);
+    }
+    judge_target(x, y, z)
+}
+
 // `call x y m z`
 fn call_row(text: &[u8], work: &[u8], c: Names, r: usize, line: usize) -> TriedRow
     requires { ⌜ AreaFits (now work) c × (r ≤ length (now text)) ⌝ }
-    ensures { λ o. ⌜ TriedAfter (now (text .entry)) (now (work .entry)) c r callGood callRow line o ⌝ }
+    ensures { λ o. ⌜ TriedAfter (now (text .entry)) (now (work .entry)) c r callJudged callRow line o ⌝ }
 {
     let a = read_declarations::span_after(text, r);
     let b = read_declarations::span_after(text, a.start + a.len);
@@ -194,54 +236,52 @@ fn call_row(text: &[u8], work: &[u8], c: Names, r: usize, line: usize) -> TriedR
     let x = variable_at(text, work, c, a);
     let y = variable_at(text, work, c, b);
     let z = variable_at(text, work, c, e);
-    if !may_call(x, y, z) {
-        return TriedRow::Bad;
-    }
     let class = read_lookups::type_of(work, y);
     let m = read_lookups::method_number(text, work, c, class, read_names::name_in(text, d));
-    if !has_method(text, class, d, m, c.methods) {
-        return TriedRow::Bad;
-    }
-    let good = call_agrees(text, work, c, x, z, m);
-    row_if(good, row(Kind::CALL, x, y, z, m, line))
+    let v = judge_call(text, work, c, x, y, z, class, d, m);
+    row_if(v, row(Kind::CALL, x, y, z, m, line))
 }
 
 // `return x`
 fn return_row(text: &[u8], work: &[u8], c: Names, r: usize, line: usize) -> TriedRow
     requires { ⌜ AreaFits (now work) c × (r ≤ length (now text)) ⌝ }
-    ensures { λ o. ⌜ TriedAfter (now (text .entry)) (now (work .entry)) c r returnGood returnRow line o ⌝ }
+    ensures { λ o. ⌜ TriedAfter (now (text .entry)) (now (work .entry)) c r returnJudged returnRow line o ⌝ }
 {
     let a = read_declarations::span_after(text, r);
     let x = variable_at(text, work, c, a);
     if read_names::NO_VARIABLE <= x {
-        return TriedRow::Bad;
+        return TriedRow::Bad(Fault::Undeclared);
     }
     let result = read_lookups::variable_type(text, work, c, b"result");
-    let good = read_lookups::same_name(text, read_lookups::type_of(work, x), result);
-    row_if(good, row(Kind::RETURN, x, 0, 0, 0, line))
+    let same = read_lookups::same_name(text, read_lookups::type_of(work, x), result);
+    let v = read_types::test(same, Fault::WrongType);
+    row_if(v, row(Kind::RETURN, x, 0, 0, 0, line))
 }
 
-// Is x a local, and are all three int? A name that is no variable's has no type.
-fn may_compute(text: &[u8], work: &[u8], x: usize, y: usize, z: usize) -> bool
+// May x take the sum or the difference of y and z?
+fn judge_compute(text: &[u8], work: &[u8], x: usize, y: usize, z: usize) -> Verdict
     requires { ⌜ (length (now work) ≡ work-bytes) × (x ≤ frame-variables) × (y ≤ frame-variables) × (z ≤ frame-variables) ⌝ }
     ensures { λ r. ⌜ r ≡ mayCompute (now (text .entry)) (now (work .entry)) x y z ⌝ }
 {
-    if !is_local(x) {
-        return false;
+    if !are_known(x, y, z) {
+        return Verdict::Bad(Fault::Undeclared);
     }
     if !read_lookups::is_int(text, read_lookups::type_of(work, x)) {
-        return false;
+        return Verdict::Bad(Fault::WrongType);
     }
     if !read_lookups::is_int(text, read_lookups::type_of(work, y)) {
-        return false;
+        return Verdict::Bad(Fault::WrongType);
     }
-    read_lookups::is_int(text, read_lookups::type_of(work, z))
+    if !read_lookups::is_int(text, read_lookups::type_of(work, z)) {
+        return Verdict::Bad(Fault::WrongType);
+    }
+    read_types::test(is_local(x), Fault::WrongTarget)
 }
 
 // `add x y z` and `sub x y z`
 fn compute_row(text: &[u8], work: &[u8], c: Names, kind: u8, r: usize, line: usize) -> TriedRow
     requires { ⌜ AreaFits (now work) c × (r ≤ length (now text)) ⌝ }
-    ensures { λ o. ⌜ TriedAfter (now (text .entry)) (now (work .entry)) c r computeGood (λ Γ vs ws l. computeRow Γ vs ws l kind) line o ⌝ }
+    ensures { λ o. ⌜ TriedAfter (now (text .entry)) (now (work .entry)) c r computeJudged (λ Γ vs ws l. computeRow Γ vs ws l kind) line o ⌝ }
 {
     let a = read_declarations::span_after(text, r);
     let b = read_declarations::span_after(text, a.start + a.len);
@@ -249,14 +289,14 @@ fn compute_row(text: &[u8], work: &[u8], c: Names, kind: u8, r: usize, line: usi
     let x = variable_at(text, work, c, a);
     let y = variable_at(text, work, c, b);
     let z = variable_at(text, work, c, d);
-    let good = may_compute(text, work, x, y, z);
-    row_if(good, row(kind, x, y, z, 0, line))
+    let v = judge_compute(text, work, x, y, z);
+    row_if(v, row(kind, x, y, z, 0, line))
 }
 
 // The row of a line of this kind; `else`, `end` and `again` have no operands.
 pub fn plain_row(text: &[u8], work: &[u8], c: Names, kind: u8, r: usize, line: usize) -> TriedRow
     requires { ⌜ AreaFits (now work) c × (r ≤ length (now text)) ⌝ }
-    ensures { λ o. ⌜ TriedAfter (now (text .entry)) (now (work .entry)) c r (λ Γ vs ws. plainGood Γ vs ws kind) (λ Γ vs ws l. plainRow Γ vs ws l kind) line o ⌝ }
+    ensures { λ o. ⌜ TriedAfter (now (text .entry)) (now (work .entry)) c r (λ Γ vs ws. plainJudged Γ vs ws kind) (λ Γ vs ws l. plainRow Γ vs ws l kind) line o ⌝ }
 {
     match kind {
         Kind::SET => set_row(text, work, c, r, line),
@@ -267,11 +307,11 @@ pub fn plain_row(text: &[u8], work: &[u8], c: Names, kind: u8, r: usize, line: u
         Kind::SUB => compute_row(text, work, c, Kind::SUB, r, line),
         Kind::OPEN => chains::open_row(text, work, c, r, line),
         Kind::SHUT => chains::shut_row(text, work, c, r, line),
-        _ => row_if(true, row(kind, 0, 0, 0, 0, line)),
+        _ => row_if(Verdict::Good, row(kind, 0, 0, 0, 0, line)),
     }
 }
 
-// Tries a line of this kind, whose word ends at r: writes it as the row i if it is good. Is it?
+// Tries a line of this kind, whose word ends at r: writes it as the row i if it is good.
 pub fn put_plain(
     text: &[u8],
     work: &mut [u8],
@@ -280,14 +320,16 @@ pub fn put_plain(
     r: usize,
     i: usize,
     line: usize,
-) -> bool
+) -> Verdict
     requires { ⌜ AreaFits (now work) c × PlainFollows (now text) kind r × (i < most-statements) × (line < half-values) ⌝ }
-    ensures { λ b. ⌜ PlainTried (now (text .entry)) (now (work .entry)) c kind r i line (now (work .exit)) b ⌝ }
+    ensures { λ v. ⌜ PlainTried (now (text .entry)) (now (work .entry)) c kind r i line (now (work .exit)) v ⌝ }
 {
     let t = plain_row(text, work, c, kind, r, line);
-    let TriedRow::Row(o) = t else {
-        return false;
-    };
-    write_rows::put_row(work, i, o);
-    true
+    match t {
+        TriedRow::Bad(f) => Verdict::Bad(f),
+        TriedRow::Row(o) => {
+            write_rows::put_row(work, i, o);
+            Verdict::Good
+        }
+    }
 }

@@ -37,8 +37,12 @@ use Rattle.read_names.specs.declared.Span.{Span}
 use Rattle.read_types.specs.declared.Lookup.{Lookup}
 use Rattle.read_names.specs.Rows.{nameIn}
 use Rattle.read_scopes.specs.Meanings.{AreaFits, declarationsIn, variablesIn}
-use Rattle.read_lookups.specs.LookUps.{Looked, typeOf}
-use Rattle.read_types.specs.Types.{good, LookIs, typeMeant}
+use Rattle.read_lookups.specs.LookUps.{Looked}
+use Rattle.read_types.specs.declared.Fault.{Fault}
+use Rattle.read_types.specs.declared.Verdict.{Verdict}
+use Rattle.read_types.specs.Verdicts.{test, judged, andThen}
+use Rattle.read_types.specs.Types.{exprJudged, LookIs}
+use Rattle.read_types.proofs.Verdicts.{lower-last, then-good, test-good}
 use Rattle.rules.specs.Syntax.{Program}
 use Rattle.rules.specs.Reading.{withItem}
 use Rattle.write_rows.specs.Puts.{putAtom, putRow, RowBytes}
@@ -51,16 +55,16 @@ use Rattle.write_rows.proofs.Statements.{let-written, if-written}
 use Rattle.read_declarations.specs.Texts.{SpanAfter}
 use Rattle.read_declarations.specs.Declares.{lineWith}
 use Rattle.read_declarations.proofs.Lines.{second, third}
-use Rattle.resolve_pass.specs.Passes.{isGood}
+use Rattle.resolve_pass.specs.Passes.{lineJudged}
 use Rattle.resolve_atoms.specs.declared.AtomRow.{AtomRow}
 use Rattle.resolve_atoms.specs.declared.TriedAtom.{TriedAtom}
 use Rattle.resolve_atoms.specs.declared.Put.{Put}
-use Rattle.resolve_atoms.specs.Good.{fitsAtom}
+use Rattle.resolve_atoms.specs.Good.{atomJudged, atomsJudged}
 use Rattle.resolve_atoms.specs.Written.{Resolved, AtomTried}
 use Rattle.resolve_atoms.proofs.Sides.{variable-small, compared-is}
-use Rattle.resolve_atoms.proofs.Goods.{formula-good}
-use Rattle.write_plain.proofs.Goods.{formed-length, local-known}
-use Rattle.write_sides.specs.Sides.{oneRow, letGood, SideFollows, SidePut, SideTried}
+use Rattle.resolve_atoms.proofs.Goods.{formula-judged}
+use Rattle.write_plain.proofs.Goods.{formed-length}
+use Rattle.write_sides.specs.Sides.{oneRow, letJudged, mayLet, SideFollows, SidePut, SideTried}
 
 -- a condition is no permission
 rel-begins : (u : Name) → isRel u ≡ true → beginsAtom u ≡ true
@@ -100,47 +104,41 @@ if-form (u ∷ a ∷ b ∷ ws) x =
     let f = both-true (isRel u) _ (both-true (eqb (length (u ∷ a ∷ b ∷ ws)) 3) _ x .1) in
     record { form = both-true (isAtom u a b) _ (f .1) .0; compared = no-access u a b (f .0) }
 
-and-true : (a : Bool) → (a && true) ≡ a
-and-true true = refl
-and-true false = refl
-
 module _ (Γ : Declarations) (vs : List Variable) (s : Scope) where
   let-shuffle :
-      (x k o a l : Bool) → (l ≡ true → x ≡ true) →
-      ((x && (k && true)) && (((o && true) && (a && true)) && ((l && true) && true))) ≡ (l && ((k && o) && a))
-  let-shuffle false k o a true h = true-false (sym (h refl))
-  let-shuffle false k o a false h = refl
-  let-shuffle true false o a true h = refl
-  let-shuffle true false o a false h = refl
-  let-shuffle true true false a true h = refl
-  let-shuffle true true false a false h = refl
-  let-shuffle true true true false true h = refl
-  let-shuffle true true true false false h = refl
-  let-shuffle true true true true true h = refl
-  let-shuffle true true true true false h = refl
+      (x k o a l : Bool) →
+      judged (x && (k && true)) ((o && true) && (a && true)) ((l && true) && true)
+      ≡ test x Fault.Undeclared (andThen (judged k o true) (test a Fault.WrongType (test l Fault.WrongTarget Verdict.Good)))
+  unfolding judged test andThen
+  let-shuffle false k o a l = refl
+  let-shuffle true false o a l = refl
+  let-shuffle true true false a l = refl
+  let-shuffle true true true false l = refl
+  let-shuffle true true true true false = refl
+  let-shuffle true true true true true = refl
 
-  let-two : (ws : List Name) → length ws ≡ 2 → isGood Γ vs s (lineWith (statement Let) ws) ≡ letGood Γ vs ws
-  unfolding Base.all Grammar.opened Scopes.opened Names.allKnown Names.known Names.allTyped Names.ofClass Names.sidesAgree Names.allAssignable Names.mayBeAssigned Names.callApart Names.openApart formulaOf isGood letGood good
+  let-two : (ws : List Name) → length ws ≡ 2 → lineJudged Γ vs s (lineWith (statement Let) ws) ≡ letJudged Γ vs ws
+  unfolding Base.all Grammar.opened Scopes.opened Names.allKnown Names.known Names.allTyped Names.ofClass Names.sidesAgree Names.allAssignable Names.mayBeAssigned Names.callApart Names.openApart formulaOf lineJudged letJudged exprJudged
   let-two [] e = absurd (omega arith)
   let-two (u ∷ []) e = absurd (omega arith)
   let-two (u ∷ v ∷ []) e =
       let-shuffle (inScope vs u) (Names.knownExpr Γ vs (exprOf v)) (Names.ofClassIn Γ vs (exprOf v))
-      (agree (some (variableType vs u)) (exprType Γ vs (exprOf v))) (isLocal (variableNumber vs u)) (local-known vs u)
+      (agree (some (variableType vs u)) (exprType Γ vs (exprOf v))) (isLocal (variableNumber vs u))
   let-two (u ∷ v ∷ x ∷ ws) e = absurd (omega arith)
 
-  let-good : (ws : List Name) → Formed Let ws → isGood Γ vs s (lineWith (statement Let) ws) ≡ letGood Γ vs ws
+  let-judged : (ws : List Name) → Formed Let ws → lineJudged Γ vs s (lineWith (statement Let) ws) ≡ letJudged Γ vs ws
   unfolding Grammar.opened
-  let-good ws e = let-two ws (formed-length (form (statement Let) .operands) ws e)
+  let-judged ws e = let-two ws (formed-length (form (statement Let) .operands) ws e)
 
-  if-good :
+  if-judged :
       (ws : List Name) → Formed If ws →
-      isGood Γ vs s (lineWith (statement If) ws) ≡ fitsAtom Γ vs (atomOf (getD ws 0 []) (getD ws 1 []) (getD ws 2 []))
-  unfolding Grammar.opened isCondition formulaOf Base.all isGood
-  if-good [] x = true-false (sym x)
-  if-good (u ∷ []) x = true-false (sym x)
-  if-good (u ∷ a ∷ []) x = true-false (sym x)
-  if-good (u ∷ a ∷ b ∷ []) x = formula-good Γ vs s (lineWith (statement If) (u ∷ a ∷ b ∷ [])) refl ∙ and-true (fitsAtom Γ vs (atomOf u a b))
-  if-good (u ∷ a ∷ b ∷ d ∷ ws) x =
+      lineJudged Γ vs s (lineWith (statement If) ws) ≡ atomJudged Γ vs (atomOf (getD ws 0 []) (getD ws 1 []) (getD ws 2 []))
+  unfolding Grammar.opened isCondition formulaOf atomsJudged lineJudged
+  if-judged [] x = true-false (sym x)
+  if-judged (u ∷ []) x = true-false (sym x)
+  if-judged (u ∷ a ∷ []) x = true-false (sym x)
+  if-judged (u ∷ a ∷ b ∷ []) x = formula-judged Γ vs s (lineWith (statement If) (u ∷ a ∷ b ∷ [])) refl ∙ lower-last (atomJudged Γ vs (atomOf u a b))
+  if-judged (u ∷ a ∷ b ∷ d ∷ ws) x =
       let z : length (u ∷ a ∷ b ∷ d ∷ ws) ≡ 3 = eqb-true _ 3 (both-true (eqb (length (u ∷ a ∷ b ∷ d ∷ ws)) 3) _ x .0) in
       absurd (omega (arith, z))
 
@@ -227,34 +225,41 @@ module _ (t w : List ℕ) (c : Counts.Names) (r i n l : ℕ) (ready : AreaFits w
     let-formed = let-form ws (y .formed)
 
     module _ {a b : Span} {u v : Name} {x : ℕ} {e : Lookup} (p : SpanAfter t r a) (p2 : SpanAfter t (a .start + a .len) b) (eu : u ≡ nameIn t a)
-        (ev : v ≡ nameIn t b) (hx : Looked t w vs u x) (he : LookIs t Γ vs (exprOf v) e) {g : Bool}
-        (answer : g ≡ (isLocal x && (e .good && agree (some (nameIn t (typeOf w x))) (typeMeant t (e .is))))) where
+        (ev : v ≡ nameIn t b) (hx : Looked t w vs u x) (he : LookIs t Γ vs (exprOf v) e) {g : Verdict}
+        (answer : g ≡ mayLet t w x e) where
       X : Looked t w vs (getD ws 0 []) x
       X = subst (λ z. Looked t w vs z x) (eu ∙ p .name) hx
 
       E : LookIs t Γ vs (exprOf (getD ws 1 [])) e
       E = subst (λ z. LookIs t Γ vs (exprOf z) e) (ev ∙ second p p2) he
 
-      let-is : g ≡ letGood Γ vs ws
-      unfolding letGood
-      let-is = answer ∙ (λ j. isLocal (X .number j) && (E .good j && agree (some (sym (X .type) j)) (E .is j)))
+      let-is : g ≡ letJudged Γ vs ws
+      unfolding letJudged
+      let-is =
+          answer
+          ∙ (λ j.
+          test (sym (X .known) j) Fault.Undeclared
+          (andThen (E .verdict j)
+          (test (agree (some (sym (X .type) j)) (E .is j)) Fault.WrongType (test (isLocal (X .number j)) Fault.WrongTarget Verdict.Good))))
 
-      pub let-bad : g ≡ false → SideTried Let t w c r i n l w Put.Bad
+      pub let-bad : {f : Fault} → g ≡ Verdict.Bad f → SideTried Let t w c r i n l w (Put.Bad f)
       unfolding SideTried
-      let-bad f = (λ s. let-good Γ vs s ws (y .formed) ∙ (sym let-is ∙ f), λ j q d. refl, refl)
+      let-bad f = (λ s. let-judged Γ vs s ws (y .formed) ∙ (sym let-is ∙ f), refl)
 
-      module _ (fits : g ≡ true) where
+      module _ (fits : g ≡ Verdict.Good) where
+        let-known : (inScope vs (getD ws 0 []) ≡ true) × (exprJudged Γ vs (exprOf (getD ws 1 [])) ≡ Verdict.Good)
+        unfolding letJudged
+        let-known =
+            let k = test-good (inScope vs (getD ws 0 [])) Fault.Undeclared _ (sym let-is ∙ fits) in
+            (k .0, then-good (exprJudged Γ vs (exprOf (getD ws 1 []))) _ (k .1) .0)
+
         pub let-variable : x < frame-variables
-        unfolding letGood
-        let-variable =
-            let k = both-true (isLocal (variableNumber vs (getD ws 0 []))) _ (sym let-is ∙ fits) in
-            omega (arith, X .number, variable-small t w c (ready .fits) (getD ws 0 []) (local-known vs (getD ws 0 []) (k .0)))
+        let-variable = omega (arith, X .number, variable-small t w c (ready .fits) (getD ws 0 []) (let-known .0))
 
         pub let-atom : AtomOk eq-atom Tables.Expr.Null (e .expr)
-        unfolding meaning SideFits letGood
+        unfolding meaning SideFits
         let-atom =
-            let k = both-true (isLocal (variableNumber vs (getD ws 0 []))) _ (sym let-is ∙ fits) in
-            let g = both-true (good Γ vs (exprOf (getD ws 1 []))) _ (k .1) .0 in
+            let g = let-known .1 in
             let o = compared-is t w c (ready .fits) eq-atom (getD ws 1 []) (getD ws 1 []) (e .expr) (e .expr) (omega arith) g g (E .expr) (E .expr) .ok in
             record { least = omega arith; kind = omega arith; left = tt; right = o .right; access = λ z. absurd (omega arith) }
 
@@ -279,7 +284,7 @@ module _ (t w : List ℕ) (c : Counts.Names) (r i n l : ℕ) (ready : AreaFits w
             {q z : List ℕ} → q ≡ putAtom w n eq-atom Tables.Expr.Null (e .expr) → z ≡ putRow q i (oneRow 9 x n l) →
             SideTried Let t w c r i n l z (Put.Done (n + 1))
         unfolding SideTried
-        let-done d f = (λ s. let-good Γ vs s ws (y .formed) ∙ (sym let-is ∙ fits), let-put d f)
+        let-done d f = (λ s. let-judged Γ vs s ws (y .formed) ∙ (sym let-is ∙ fits), let-put d f)
 
   -- IF
   module _ (y : SideFollows If t r n) where
@@ -323,14 +328,14 @@ module _ (t w : List ℕ) (c : Counts.Names) (r i n l : ℕ) (ready : AreaFits w
       atom-is : atomOf u x z ≡ atom
       atom-is j = atomOf ((eu ∙ p .name) j) ((ex ∙ second p p2) j) ((ez ∙ third p p2 p3) j)
 
-      pub if-bad : (q : TriedAtom) → q ≡ TriedAtom.Bad → AtomTried Γ vs (atomOf u x z) q → SideTried If t w c r i n l w Put.Bad
+      pub if-bad : (q : TriedAtom) {f : Fault} → q ≡ TriedAtom.Bad f → AtomTried Γ vs (atomOf u x z) q → SideTried If t w c r i n l w (Put.Bad f)
       unfolding SideTried AtomTried
-      if-bad q e h =
-          let g : fitsAtom Γ vs (atomOf u x z) ≡ false = subst (AtomTried Γ vs (atomOf u x z)) e h in
-          (λ s. if-good Γ vs s ws (y .formed) ∙ (ap (fitsAtom Γ vs) (sym atom-is) ∙ g), λ j k m. refl, refl)
+      if-bad q {f} e h =
+          let g : atomJudged Γ vs (atomOf u x z) ≡ Verdict.Bad f = subst (AtomTried Γ vs (atomOf u x z)) e h in
+          (λ s. if-judged Γ vs s ws (y .formed) ∙ (ap (atomJudged Γ vs) (sym atom-is) ∙ g), refl)
 
       module _ (q : TriedAtom) (s : AtomRow) (e : q ≡ TriedAtom.Row s) (h : AtomTried Γ vs (atomOf u x z) q) where
-        if-row : (fitsAtom Γ vs (atomOf u x z) ≡ true) × Resolved Γ vs (atomOf u x z) s
+        if-row : (atomJudged Γ vs (atomOf u x z) ≡ Verdict.Good) × Resolved Γ vs (atomOf u x z) s
         unfolding AtomTried
         if-row = subst (AtomTried Γ vs (atomOf u x z)) e h
 
@@ -342,6 +347,6 @@ module _ (t w : List ℕ) (c : Counts.Names) (r i n l : ℕ) (ready : AreaFits w
             SideTried If t w c r i n l v (Put.Done (n + 1))
         unfolding SideTried
         if-done k m = (
-          λ s. if-good Γ vs s ws (y .formed) ∙ (ap (fitsAtom Γ vs) (sym atom-is) ∙ if-row .0),
+          λ s. if-judged Γ vs s ws (y .formed) ∙ (ap (atomJudged Γ vs) (sym atom-is) ∙ if-row .0),
           if-put s (subst (λ z. Resolved Γ vs z s) atom-is (if-row .1)) k m,
         )

@@ -1,7 +1,9 @@
 // The rows of `let` and `if`, with their one atom.
 use read_scopes::Names;
 use read_types::ExprType;
+use read_types::Fault;
 use read_types::Lookup;
+use read_types::Verdict;
 use resolve_atoms::Put;
 use resolve_atoms::TriedAtom;
 use rules::Kind;
@@ -33,20 +35,24 @@ fn row(kind: u8, x: usize, n: usize, line: usize) -> Operands
     }
 }
 
-// Is x a local of the type of e?
-fn let_fits(text: &[u8], work: &[u8], x: usize, e: Lookup) -> bool
+// May e be assigned to x?
+fn judge_let(text: &[u8], work: &[u8], x: usize, e: Lookup) -> Verdict
     requires { ⌜ (length (now work) ≡ work-bytes) × (x ≤ frame-variables) ⌝ }
     ensures { λ r. ⌜ r ≡ mayLet (now (text .entry)) (now (work .entry)) x e ⌝ }
 {
-    if !write_plain::is_local(x) {
-        return false;
+    if read_names::NO_VARIABLE <= x {
+        return Verdict::Bad(Fault::Undeclared);
     }
-    if !e.good {
-        return false;
+    let v = e.verdict;
+    if let Verdict::Bad(f) = v {
+        return Verdict::Bad(f);
     }
     let s = read_lookups::type_of(work, x);
     let is = e.is;
-    read_types::agree(text, ExprType::Named(s), is)
+    if !read_types::agree(text, ExprType::Named(s), is) {
+        return Verdict::Bad(Fault::WrongType);
+    }
+    read_types::test(write_plain::is_local(x), Fault::WrongTarget)
 }
 
 // Tries `let x e`, the word of which ends at r. If it is good, e is written as the right side of the atom n, and the statement as the
@@ -67,8 +73,9 @@ pub fn put_let(
     let b = read_declarations::span_after(text, a.start + a.len);
     let x = read_lookups::variable(text, work, c, read_names::name_in(text, a));
     let l = read_types::look(text, work, c, read_names::name_in(text, b));
-    if !let_fits(text, work, x, l) {
-        return Put::Bad;
+    let v = judge_let(text, work, x, l);
+    if let Verdict::Bad(f) = v {
+        return Put::Bad(f);
     }
     let e = l.expr;
     let o = row(Kind::LET, x, n, line);
@@ -98,13 +105,15 @@ pub fn put_if(
     let y = read_names::name_in(text, d);
     let kind = read_atoms::begun_by(read_bytes::byte_at(word, 0));
     let q = resolve_atoms::resolve_atom(text, work, c, kind, x, y);
-    let TriedAtom::Row(s) = q else {
-        return Put::Bad;
-    };
-    let left = s.left;
-    let right = s.right;
-    let o = row(Kind::IF, 0, n, line);
-    write_rows::put_atom(work, n, s.kind, left, right);
-    write_rows::put_row(work, i, o);
-    Put::Done(n + 1)
+    match q {
+        TriedAtom::Bad(f) => Put::Bad(f),
+        TriedAtom::Row(s) => {
+            let left = s.left;
+            let right = s.right;
+            let o = row(Kind::IF, 0, n, line);
+            write_rows::put_atom(work, n, s.kind, left, right);
+            write_rows::put_row(work, i, o);
+            Put::Done(n + 1)
+        }
+    }
 }

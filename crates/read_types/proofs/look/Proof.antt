@@ -4,7 +4,8 @@ use lib.Seq.{length-take-le}
 use Rattle.rules.specs.Names.{exprType, knownExpr, ofClassIn}
 use Rattle.rules.specs.Items.{resolveExpr}
 use Rattle.tables.specs.Stores.{meaning}
-use Rattle.read_types.specs.Types.{typeMeant, good}
+use Rattle.read_types.specs.Types.{typeMeant, exprJudged}
+use Rattle.read_types.specs.Verdicts.{test, judged}
 use Rattle.read_types.proofs.Exprs.{read-num, read-null, read-var, read-path, stop-within}
 use borrow.Author.Needs.{needs}
 use Rattle.read_types.proofs.look.Statement.{statement}
@@ -51,9 +52,9 @@ enum-told-2 : tie.Need-enum-told-2
 enum-told-2 c = search needs
 
 returns : tie.Need-returns
-unfolding meaning resolveExpr typeMeant exprType good knownExpr ofClassIn
+unfolding meaning resolveExpr typeMeant exprType exprJudged judged test knownExpr ofClassIn
 returns c =
-    rw (read-num _ _ (c .before .before .before .known-expr .ensures) _ (c .before .e .given .1)) (record { expr = refl; is = refl; good = refl })
+    rw (read-num _ _ (c .before .before .before .known-expr .ensures) _ (c .before .e .given .1)) (record { expr = refl; is = refl; verdict = refl })
 
 returns-2 : tie.Need-returns-2
 returns-2 c =
@@ -64,9 +65,9 @@ returns-3 c =
     rw (read-path _ _ (c .before .before .before .before .before .before .known-expr .ensures) _ (c .before .before .before .before .e2 .given .1)) (c .path-look .ensures)
 
 returns-4 : tie.Need-returns-4
-unfolding meaning resolveExpr typeMeant exprType good knownExpr ofClassIn
+unfolding meaning resolveExpr typeMeant exprType exprJudged judged test knownExpr ofClassIn
 returns-4 c =
-    rw (read-null _ _ (c .before .before .known-expr .ensures) (c .enum-told2 .given .1)) (record { expr = refl; is = refl; good = refl })
+    rw (read-null _ _ (c .before .before .known-expr .ensures) (c .enum-told2 .given .1)) (record { expr = refl; is = refl; verdict = refl })
 
 pub look-spec : {M : Type 1} → statement M
 look-spec =

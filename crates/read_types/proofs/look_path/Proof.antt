@@ -1,5 +1,5 @@
 use mathlib.Core.Path.{_∙_}
-use Rattle.read_types.proofs.Types.{path-type, path-good}
+use Rattle.read_types.proofs.Types.{path-type, path-judged}
 use borrow.Author.Needs.{needs}
 use Rattle.read_types.proofs.look_path.Statement.{statement}
 use Rattle.read_types.proofs.look_path.Tie as tie
@@ -19,8 +19,8 @@ owned-field-requires c κs = search needs
 field-gives-requires : tie.Need-field-gives-requires
 field-gives-requires c κs = search needs
 
-is-member-requires : tie.Need-is-member-requires
-is-member-requires c κs = search needs
+judge-member-requires : tie.Need-judge-member-requires
+judge-member-requires c κs = search needs
 
 returns : tie.Need-returns
 returns c =
@@ -28,7 +28,7 @@ returns c =
       variable = c .before .before .before .before .before .variable .ensures;
       number = c .before .before .before .field-number .ensures .0;
       is = c .before .field-gives .ensures _ ∙ path-type _ _ _ _ _ _ _ _ _ (c .before .before .before .before .before .variable .ensures) (c .before .before .before .before .type-of .ensures) (c .before .before .owned-field .ensures);
-      good = c .is-member .ensures ∙ path-good _ _ _ _ _ _ _ _ _ (c .before .before .before .before .before .variable .ensures) (c .before .before .before .before .type-of .ensures) (c .before .before .owned-field .ensures);
+      verdict = c .judge-member .ensures ∙ path-judged _ _ _ _ _ _ _ _ _ (c .before .before .before .before .before .variable .ensures) (c .before .before .before .before .type-of .ensures) (c .before .before .owned-field .ensures);
     }
 
 pub look-path-spec : {M : Type 1} → statement M
@@ -40,5 +40,5 @@ look-path-spec =
     field-number-requires
     owned-field-requires
     field-gives-requires
-    is-member-requires
+    judge-member-requires
     returns)

@@ -18,7 +18,7 @@ returns c =
     record {
       expr = ap₂ path (c .before .look-path .ensures .variable .number) (c .before .look-path .ensures .number);
       is = ap some (c .before .look-path .ensures .is);
-      good = c .before .look-path .ensures .good;
+      verdict = c .before .look-path .ensures .verdict;
     }
 
 pub path-look-spec : {M : Type 1} → statement M

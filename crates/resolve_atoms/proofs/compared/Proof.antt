@@ -1,7 +1,7 @@
 -- `resolve_atoms::compared` meets its contract. Assumes nothing.
 use mathlib.Core.Path.{sym, _∙_}
 use borrow.Author.Tests.{not-true, not-false}
-use Rattle.resolve_atoms.proofs.Sides.{compared-row, left-bad, right-bad, apart-bad}
+use Rattle.resolve_atoms.proofs.Sides.{compared-row, side-bad, apart-bad}
 use borrow.Author.Needs.{needs}
 use Rattle.resolve_atoms.proofs.compared.Statement.{statement}
 use Rattle.resolve_atoms.proofs.compared.Tie as tie
@@ -12,43 +12,40 @@ look-requires c κs = search needs
 look-requires-2 : tie.Need-look-requires-2
 look-requires-2 c κs = search needs
 
+lower-requires : tie.Need-lower-requires
+lower-requires c κs = search needs
+
+enum-known-v : tie.Need-enum-known-v
+enum-known-v c = search needs
+
 returns : tie.Need-returns
 returns c =
-    let start = c .before .before .before .before .before .before .before .before in
-    let at-look = c .before .before .before .look in
-    let at-look2 = c .before .before .look2 in
-    left-bad _ _ _ (start .pre .0 .fits) _ _ _ _ _ (at-look .ensures) (at-look2 .ensures) (not-true _ (c .if1 .taken))
+    side-bad _ _ _ (c .before .before .before .before .before .before .before .before .before .before .pre .0 .fits) _ _ _ _ _ (c .before .before .before .before .before .look .ensures) (c .before .before .before .before .look2 .ensures) (c .before .before .before .lower .ensures) (c .before .v .given .1)
 
-returns-2 : tie.Need-returns-2
-returns-2 c =
-    let start = c .before .before .before .before .before .before .before .before .before .before in
-    let at-look = c .before .before .before .before .before .look in
-    let at-look2 = c .before .before .before .before .look2 in
-    let at-if1 = c .before .before .if1 in
-    right-bad _ _ _ (start .pre .0 .fits) _ _ _ _ _ (at-look .ensures) (at-look2 .ensures) (not-false _ (at-if1 .left)) (not-true _ (c .if2 .taken))
+enum-told : tie.Need-enum-told
+enum-told c = search needs
 
 agree-requires : tie.Need-agree-requires
 agree-requires c κs = search needs
 
+returns-2 : tie.Need-returns-2
+returns-2 c =
+    apart-bad _ _ _ (c .before .before .before .before .before .before .before .before .before .before .before .pre .0 .fits) _ _ _ _ _ (c .before .before .before .before .before .before .look .ensures) (c .before .before .before .before .before .look2 .ensures) (c .before .before .before .before .lower .ensures) (c .before .before .enum-told .given .1) (sym (c .before .agree .ensures) ∙ not-true _ (c .if1 .taken))
+
 returns-3 : tie.Need-returns-3
 returns-3 c =
-    let start = c .before .before .before .before .before .before .before .before .before .before .before .before in
-    let at-look = c .before .before .before .before .before .before .before .look in
-    let at-look2 = c .before .before .before .before .before .before .look2 in
-    let at-if1 = c .before .before .before .before .if1 in
-    let at-if2 = c .before .before .if2 in
-    apart-bad _ _ _ (start .pre .0 .fits) _ _ _ _ _ (at-look .ensures) (at-look2 .ensures) (not-false _ (at-if1 .left)) (not-false _ (at-if2 .left)) (sym (c .before .agree .ensures) ∙ not-true _ (c .if3 .taken))
-
-returns-4 : tie.Need-returns-4
-returns-4 c =
-    let start = c .before .before .before .before .before .before .before .before .before .before .before .before in
-    let at-look = c .before .before .before .before .before .before .before .look in
-    let at-look2 = c .before .before .before .before .before .before .look2 in
-    let at-if1 = c .before .before .before .before .if1 in
-    let at-if2 = c .before .before .if2 in
-    compared-row _ _ _ (start .pre .0 .fits) _ _ _ _ _ (at-look .ensures) (at-look2 .ensures) (start .pre .1) (not-false _ (at-if1 .left)) (not-false _ (at-if2 .left)) (sym (c .before .agree .ensures) ∙ not-false _ (c .if3 .left))
+    compared-row _ _ _ (c .before .before .before .before .before .before .before .before .before .before .before .pre .0 .fits) _ _ _ _ _ (c .before .before .before .before .before .before .look .ensures) (c .before .before .before .before .before .look2 .ensures) (c .before .before .before .before .lower .ensures) (c .before .before .enum-told .given .1) (c .before .before .before .before .before .before .before .before .before .before .before .pre .1) (sym (c .before .agree .ensures) ∙ not-false _ (c .if1 .left))
 
 pub compared-spec : {M : Type 1} → statement M
 compared-spec =
     tie.close
-    (tie.spec look-requires look-requires-2 returns returns-2 agree-requires returns-3 returns-4)
+    (tie.spec
+    look-requires
+    look-requires-2
+    lower-requires
+    enum-known-v
+    returns
+    enum-told
+    agree-requires
+    returns-2
+    returns-3)

@@ -114,58 +114,46 @@ resolve-atom-requires c κs =
     (start .pre .0, kind-atom word (at-next-field .ensures) (at-next-field2 .ensures) (follows .byte) _ (follows .form) _ (word-cut follows _ kind _ (at-row-of .ensures)))
 
 enum-known-t : tie.Need-enum-known-t
-enum-known-t c = search needs
+enum-known-t c =
+    search needs
 
-enum-told : tie.Need-enum-told
-enum-told c = search needs
-
-same-length : tie.Need-same-length
-same-length c = search needs
-
-returns : tie.Need-returns
-returns c =
-    let start = c .before .before .before .before .before .before .before .before .before .before .before .before .before .before in
-    let at-byte-at = c .before .before .before .before .before .before .before .before .before .before .before .byte-at in
-    let at-begun-by = c .before .before .before .before .before .before .before .before .before .before .begun-by in
-    let at-row-of = c .before .before .before .before .before .before .before .before .before .row-of in
-    let at-next-field = c .before .before .before .before .before .before .before .next-field in
-    let at-next-field2 = c .before .before .before .before .before .before .next-field2 in
-    let at-resolve-atom = c .before .before .resolve-atom in
-    let follows = start .pre .1 in
-    let kind = at-begun-by .ensures ∙ ap begunBy (at-byte-at .ensures) in
-    let word = word-ends follows _ kind _ (at-row-of .ensures) in
-    let tried =
-    kind-tried word (at-next-field .ensures) (at-next-field2 .ensures) (follows .byte) _ (follows .form) _ (word-cut follows _ kind _ (at-row-of .ensures)) _ _ _ (at-resolve-atom .ensures) in
-    next-bad word (at-next-field .ensures) (at-next-field2 .ensures) (follows .byte) _ (follows .form) _ _ _ _ tried (c .enum-told .given .1)
+enum-known-t-2 : tie.Need-enum-known-t-2
+enum-known-t-2 c =
+    search needs
 
 put-atom-requires : tie.Need-put-atom-requires
 put-atom-requires c κs =
     let start = c .before .before .before .before .before .before .before .before .before .before .before .before .before .before .before .before in
-    let at-resolve-atom = c .before .before .before .before .resolve-atom in
-    let at-t = c .before .before .t in
-    let o = row-ok _ _ _ _ _ (at-resolve-atom .ensures) (at-t .given .1) in
+    let o = row-ok _ _ _ _ _ (c .before .before .before .before .resolve-atom .ensures) (c .before .before .t2 .given .1) in
     ((start .pre .0 .whole, start .pre .2), (omega (arith, o .kind), (side-bytes _ (o .left), side-bytes _ (o .right))))
 
+same-length : tie.Need-same-length
+same-length c =
+    search needs
+
+returns : tie.Need-returns
+returns c =
+    let start = c .before .before .before .before .before .before .before .before .before .before .before .before .before .before .before in
+    let follows = start .pre .1 in
+    let kind = c .before .before .before .before .before .before .before .before .before .before .before .begun-by .ensures ∙ ap begunBy (c .before .before .before .before .before .before .before .before .before .before .before .before .byte-at .ensures) in
+    let word = word-ends follows _ kind _ (c .before .before .before .before .before .before .before .before .before .before .row-of .ensures) in
+    let tried =
+    kind-tried word (c .before .before .before .before .before .before .before .before .next-field .ensures) (c .before .before .before .before .before .before .before .next-field2 .ensures) (follows .byte) _ (follows .form) _ (word-cut follows _ kind _ (c .before .before .before .before .before .before .before .before .before .before .row-of .ensures)) _ _ _ (c .before .before .before .resolve-atom .ensures) in
+    next-bad word (c .before .before .before .before .before .before .before .before .next-field .ensures) (c .before .before .before .before .before .before .before .next-field2 .ensures) (follows .byte) _ (follows .form) _ _ _ _ _ tried (c .before .t .given .1)
+
 same-length-2 : tie.Need-same-length-2
-same-length-2 c = search needs
+same-length-2 c =
+    search needs
 
 returns-2 : tie.Need-returns-2
 returns-2 c =
     let start = c .before .before .before .before .before .before .before .before .before .before .before .before .before .before .before .before .before .before .before in
-    let at-byte-at = c .before .before .before .before .before .before .before .before .before .before .before .before .before .before .before .before .byte-at in
-    let at-begun-by = c .before .before .before .before .before .before .before .before .before .before .before .before .before .before .before .begun-by in
-    let at-row-of = c .before .before .before .before .before .before .before .before .before .before .before .before .before .before .row-of in
-    let at-next-field = c .before .before .before .before .before .before .before .before .before .before .before .before .next-field in
-    let at-next-field2 = c .before .before .before .before .before .before .before .before .before .before .before .next-field2 in
-    let at-resolve-atom = c .before .before .before .before .before .before .before .resolve-atom in
-    let at-t = c .before .before .before .before .before .t in
-    let at-put-atom = c .before .before .put-atom in
     let follows = start .pre .1 in
-    let kind = at-begun-by .ensures ∙ ap begunBy (at-byte-at .ensures) in
-    let word = word-ends follows _ kind _ (at-row-of .ensures) in
+    let kind = c .before .before .before .before .before .before .before .before .before .before .before .before .before .before .before .begun-by .ensures ∙ ap begunBy (c .before .before .before .before .before .before .before .before .before .before .before .before .before .before .before .before .byte-at .ensures) in
+    let word = word-ends follows _ kind _ (c .before .before .before .before .before .before .before .before .before .before .before .before .before .before .row-of .ensures) in
     let tried =
-    kind-tried word (at-next-field .ensures) (at-next-field2 .ensures) (follows .byte) _ (follows .form) _ (word-cut follows _ kind _ (at-row-of .ensures)) _ _ _ (at-resolve-atom .ensures) in
-    next-put word (at-next-field .ensures) (at-next-field2 .ensures) (follows .byte) _ (follows .form) _ _ (start .pre .0) _ _ _ _ (start .pre .2) tried (at-t .given .1) (at-put-atom .ensures)
+    kind-tried word (c .before .before .before .before .before .before .before .before .before .before .before .before .next-field .ensures) (c .before .before .before .before .before .before .before .before .before .before .before .next-field2 .ensures) (follows .byte) _ (follows .form) _ (word-cut follows _ kind _ (c .before .before .before .before .before .before .before .before .before .before .before .before .before .before .row-of .ensures)) _ _ _ (c .before .before .before .before .before .before .before .resolve-atom .ensures) in
+    next-put word (c .before .before .before .before .before .before .before .before .before .before .before .before .next-field .ensures) (c .before .before .before .before .before .before .before .before .before .before .before .next-field2 .ensures) (follows .byte) _ (follows .form) _ _ (start .pre .0) _ _ _ _ (start .pre .2) tried (c .before .before .before .before .before .t2 .given .1) (c .before .before .put-atom .ensures)
 
 pub put-next-atom-spec : {M : Type 1} → statement M
 put-next-atom-spec =
@@ -189,9 +177,9 @@ put-next-atom-spec =
     part-resolve-atom-end-2
     resolve-atom-requires
     enum-known-t
-    enum-told
+    enum-known-t-2
+    put-atom-requires
     same-length
     returns
-    put-atom-requires
     same-length-2
     returns-2)

@@ -1,7 +1,7 @@
 -- `resolve_atoms::resolve_atom` meets its contract, by the kind. Assumes nothing.
 use native.Mathlib.Omega.{arith}
 use borrow.Author.Needs.{needs}
-use Rattle.resolve_atoms.proofs.Sides.{permission-tried, access-fits, chain-fits, is-access, is-relation, compared-form, access-tried, compared-tried}
+use Rattle.resolve_atoms.proofs.Sides.{permission-tried, access-judged, chain-judged, is-access, is-relation, compared-form, access-tried, compared-tried}
 use Rattle.resolve_atoms.proofs.resolve_atom.Statement.{statement}
 use Rattle.resolve_atoms.proofs.resolve_atom.Tie as tie
 
@@ -16,7 +16,7 @@ returns c =
     let p = c .before .before .before .before .before .before .before .pre in
     let l = c .before .before .if1 .taken in
     access-tried _ _ _ (p .1) _ _ _ (omega arith)
-    (permission-tried _ _ _ (p .0 .fits) _ (is-access _ _ _ (p .1) (omega arith)) _ _ _ _ (c .before .look-path .ensures) (access-fits _ _ _ (p .1) _ _ l) (c .permission .ensures))
+    (permission-tried _ _ _ (p .0 .fits) _ (is-access _ _ _ (p .1) (omega arith)) _ _ _ _ (c .before .look-path .ensures) (access-judged _ _ _ (p .1) _ _ l) (c .permission .ensures))
 
 look-chain-requires : tie.Need-look-chain-requires
 look-chain-requires c κs = search needs
@@ -29,7 +29,7 @@ returns-2 c =
     let p = c .before .before .before .before .before .before .before .before .pre in
     let e = c .before .before .if2 .taken in
     access-tried _ _ _ (p .1) _ _ _ (omega arith)
-    (permission-tried _ _ _ (p .0 .fits) _ (is-access _ _ _ (p .1) (omega arith)) _ _ _ _ (c .before .look-chain .ensures) (chain-fits _ _ _ (p .1) _ _ e) (c .permission2 .ensures))
+    (permission-tried _ _ _ (p .0 .fits) _ (is-access _ _ _ (p .1) (omega arith)) _ _ _ _ (c .before .look-chain .ensures) (chain-judged _ _ _ (p .1) _ _ e) (c .permission2 .ensures))
 
 compared-requires : tie.Need-compared-requires
 compared-requires c κs =

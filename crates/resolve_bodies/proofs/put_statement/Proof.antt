@@ -14,26 +14,26 @@ put-row-requires c κs = search needs
 enum-known-t : tie.Need-enum-known-t
 enum-known-t c = search needs
 
-enum-told : tie.Need-enum-told
-enum-told c = search needs
+enum-known-t-2 : tie.Need-enum-known-t-2
+enum-known-t-2 c = search needs
+
+names-after-requires : tie.Need-names-after-requires
+names-after-requires c κs = search needs
+
+add-t15 : tie.Need-add-t15
+add-t15 c =
+    let p = c .before .before .before .before .before .before .before .before .before .before .before .before .before .pre in
+    omega (arith, row-room (p .0) (p .1))
+
+add-t16 : tie.Need-add-t16
+add-t16 c = omega (arith, line-small (c .before .before .before .before .before .before .before .before .before .before .before .before .before .before .pre .0))
 
 same-length : tie.Need-same-length
 same-length c = search needs
 
 returns : tie.Need-returns
 unfolding LineTried
-returns c = item-bad (c .before .before .before .before .put-row .ensures) (c .enum-told .given .1)
-
-names-after-requires : tie.Need-names-after-requires
-names-after-requires c κs = search needs
-
-add-t13 : tie.Need-add-t13
-add-t13 c =
-    let p = c .before .before .before .before .before .before .before .before .before .before .before .before .before .pre in
-    omega (arith, row-room (p .0) (p .1))
-
-add-t14 : tie.Need-add-t14
-add-t14 c = omega (arith, line-small (c .before .before .before .before .before .before .before .before .before .before .before .before .before .before .pre .0))
+returns c = item-bad _ _ _ _ _ _ _ (c .before .before .before .before .before .put-row .ensures) (c .before .t .given .1)
 
 same-length-2 : tie.Need-same-length-2
 same-length-2 c = search needs
@@ -42,7 +42,7 @@ returns-2 : tie.Need-returns-2
 unfolding LineTried
 returns-2 c =
     let p = c .before .before .before .before .before .before .before .before .before .before .before .before .before .before .pre in
-    let y = item-done (c .before .before .before .before .before .before .before .before .before .before .put-row .ensures) _ (c .before .before .before .before .before .before .t .given .1) in
+    let y = item-done (c .before .before .before .before .before .before .before .before .before .before .put-row .ensures) _ (c .before .before .before .before .before .before .t2 .given .1) in
     (y .0, (statement-line (p .0) _ (y .1) (p .1) (c .before .before .before .names-after .ensures) refl refl refl refl, refl))
 
 pub put-statement-spec : {M : Type 1} → statement M
@@ -51,11 +51,11 @@ put-statement-spec =
     (tie.spec
     put-row-requires
     enum-known-t
-    enum-told
+    enum-known-t-2
+    names-after-requires
+    add-t15
+    add-t16
     same-length
     returns
-    names-after-requires
-    add-t13
-    add-t14
     same-length-2
     returns-2)

@@ -1,11 +1,15 @@
 -- `resolve_headers::put_declaration` meets its contract. Assumes nothing.
-use mathlib.Core.Path.{refl}
-use native.Mathlib.Omega.{arith}
+use mathlib.Core.Path.{refl, ap, subst, _∙_}
+use mathlib.Core.Bool.{true}
 use lib.ListN.{drop}
 use Rattle.rules.specs.Grammar.{Class, Main, kindNumber, isStatement, isKind}
 use Rattle.read_fields.specs.Cuts.{more}
-use Rattle.resolve_pass.specs.Passes.{namesAfter, aboveAfter}
-use Rattle.resolve_headers.proofs.Lines.{class-line, main-line, at-end, room-as, put-as, last-kind}
+use Rattle.read_grammar.specs.Rows.{kindNumbered}
+use Rattle.read_grammar.proofs.Rows.{kind-of-number}
+use Rattle.read_declarations.specs.Declares.{FormedAfter}
+use Rattle.resolve_pass.specs.Passes.{namesAfter, aboveAfter, LineRoom, lineAfter}
+use Rattle.resolve_headers.proofs.Lines.{main-line, at-end, last-kind}
+use Rattle.resolve_headers.proofs.Goods.{main-test, put-on}
 use borrow.Author.Needs.{needs}
 use Rattle.resolve_headers.proofs.put_declaration.Statement.{statement}
 use Rattle.resolve_headers.proofs.put_declaration.Tie as tie
@@ -14,8 +18,10 @@ put-class-requires : tie.Need-put-class-requires
 unfolding kindNumber
 put-class-requires c κs =
     let p = c .before .before .before .before .pre in
-    let m = room-as Class (c .before .match .keys1) (p .2) in
-    (p .0 .whole, p .0 .above, omega (arith, m .class refl .0, p .0 .names .classes), p .2 .line)
+    let v = c .before .before .before .before .args in
+    let t = v .text .now in
+    let e = c .before .match .keys1 in
+    (p .0, p .1, subst (FormedAfter t (v .r)) (ap kindNumbered e ∙ kind-of-number Class) (p .2), subst (λ k. LineRoom t (v .work .now) (v .p) (lineAfter t (v .r) k)) e (p .3))
 
 put-main-requires : tie.Need-put-main-requires
 put-main-requires c κs = search needs
@@ -24,22 +30,19 @@ same-length : tie.Need-same-length
 same-length c = search needs
 
 returns : tie.Need-returns
-unfolding kindNumber isKind isStatement namesAfter
 returns c =
-    let p = c .before .before .before .before .before .before .before .pre in
-    let v = c .before .before .before .before .before .before .before .args in
-    let e = c .before .before .before .before .match .keys1 in
-    put-as Class e
-    (at-end (c .before .before .put-class .ensures .1) (c .before .before .put-class .ensures .0)
-    (class-line (v .text .now) (v .work .now) (v .p) (more (drop (v .r) (v .text .now))) (p .0) (room-as Class e (p .2))))
+    rw (c .before .before .before .before .match .keys1) (c .before .before .put-class .ensures)
 
 returns-2 : tie.Need-returns-2
 unfolding kindNumber isKind isStatement namesAfter aboveAfter
 returns-2 c =
     let p = c .before .before .before .before .pre in
     let v = c .before .before .before .before .args in
-    put-as Main (last-kind (v .kind) (p .1) (c .before .match .rest .1))
-    (at-end refl (c .put-main .ensures) (main-line (v .text .now) (v .work .now) (v .p) (more (drop (v .r) (v .text .now)))))
+    let t = v .text .now in
+    let e = last-kind (v .kind) (p .4) (c .before .match .rest .1) in
+    let formed = subst (FormedAfter t (v .r)) (ap kindNumbered e ∙ kind-of-number Main) (p .2) in
+    put-on t (v .work .now) (v .p) (v .r) Main e true (main-test t (v .work .now) (v .p) (more (drop (v .r) t)) true formed refl) refl
+    (at-end refl (c .put-main .ensures) (main-line t (v .work .now) (v .p) (more (drop (v .r) t))))
 
 pub put-declaration-spec : {M : Type 1} → statement M
 put-declaration-spec =

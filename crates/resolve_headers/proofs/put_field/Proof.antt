@@ -45,7 +45,7 @@ returns c =
     let good =
     field-test t (v .work .now) (v .p) (more (drop (v .r) t)) _ (c .before .before .before .before .before .span-after .result) (c .before .before .before .span-after2 .result) (x .name) (second x (c .before .before .before .span-after2 .ensures)) (p .2)
     (c .before .may-add-field .ensures) in
-    put-bad t (v .work .now) (v .p) (v .r) Field refl good (not-true _ (c .if1 .taken))
+    put-bad t (v .work .now) (v .p) (v .r) Field refl (c .before .may-add-field .result) good (not-true _ (c .if1 .taken))
 
 is-int-requires : tie.Need-is-int-requires
 is-int-requires c κs = search needs
@@ -105,7 +105,7 @@ returns-2 c =
     let passed = not-false _ (c .before .before .before .before .before .before .before .before .before .before .before .if1 .left) in
     let good = field-test t w (v .p) ws _ (c .before .before .before .before .before .before .before .before .before .before .before .before .before .before .before .before .span-after .result) (c .before .before .before .before .before .before .before .before .before .before .before .before .before .before .span-after2 .result) (x .name) n (p .2) test in
     let new = new-field t w (v .p) ws _ (c .before .before .before .before .before .before .before .before .before .before .before .before .before .before .before .before .span-after .result) (c .before .before .before .before .before .before .before .before .before .before .before .before .before .before .span-after2 .result) (x .name) n test passed in
-    put-on t w (v .p) (v .r) Field refl good passed
+    put-on t w (v .p) (v .r) Field refl (c .before .before .before .before .before .before .before .before .before .before .before .before .may-add-field .result) good passed
     (at-end
     (c .before .before .before .before .put-class-field .ensures ∙ (λ j. putField w (v .p .above .classes - 1) (name j) (int j)))
     (c .moved .ensures ∙ (λ j. moved (v .p) (v .p .names) (c .before .with-field .ensures j) (v .p .main)))

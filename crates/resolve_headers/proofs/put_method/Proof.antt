@@ -55,7 +55,7 @@ returns c =
     let m = at-method-row .ensures in
     let good = method-test t (v .work .now) (v .p) (more (drop (v .r) t)) _ (at-span-after .result) m (at-span-after .ensures .name ∙ m .parameter) (p
     .2) (c .before .may-add-method .ensures) in
-    put-bad t (v .work .now) (v .p) (v .r) Method refl good (not-true _ (c .if1 .taken))
+    put-bad t (v .work .now) (v .p) (v .r) Method refl (c .before .may-add-method .result) good (not-true _ (c .if1 .taken))
 
 name-at-requires : tie.Need-name-at-requires
 name-at-requires c κs =
@@ -139,7 +139,7 @@ returns-2 c =
     let room = room-as Method refl (p .3) in
     let last : v .p .above .classes ≡ suc (v .p .above .classes - 1) = omega (arith, room .method refl .0) in
     let good = method-test t w (v .p) ws _ (at-span-after .result) m name (p .2) (at-may-add-method .ensures) in
-    put-on t w (v .p) (v .r) Method refl good (not-false _ (at-if1 .left)) (at-end (at-put-block .ensures ∙ ap (λ u. putBlock t u (at-name-at .result)
+    put-on t w (v .p) (v .r) Method refl (c .before .before .before .before .before .before .before .before .before .before .before .before .before .before .before .may-add-method .result) good (not-false _ (at-if1 .left)) (at-end (at-put-block .ensures ∙ ap (λ u. putBlock t u (at-name-at .result)
     (at-method-row .result) (at-span-after .result)) (at-put-method-row .ensures ∙ (λ j. putMethod w (at-after .ensures j) (v .p .rows)))) (c .moved
     .ensures ∙ (λ j. moved (v .p) (at-in-method .ensures j) (c .before .with-method .ensures j) (v .p .main))) (method-line t w (v .p) ws (v .p .above
     .classes - 1) (at-name-at .result) (at-span-after .result) (at-method-row .result) (p .0) room (p .4) last (k .0) (k .1) m name s))

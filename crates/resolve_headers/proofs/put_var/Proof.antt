@@ -39,7 +39,7 @@ returns c =
     let is =
     var-test (v .text .now) (v .work .now) (v .p) (more (drop (v .r) (v .text .now))) _ (c .before .before .before .before .before .span-after .result) (c .before .before .before .span-after2 .result)
     (x .name) (second x y) (p .2) (c .before .may-declare .ensures) in
-    put-bad (v .text .now) (v .work .now) (v .p) (v .r) Var refl is (not-true _ (c .if1 .taken))
+    put-bad (v .text .now) (v .work .now) (v .p) (v .r) Var refl (c .before .may-declare .result) is (not-true _ (c .if1 .taken))
 
 put-local-requires : tie.Need-put-local-requires
 unfolding kindNumber
@@ -76,7 +76,7 @@ returns-2 c =
     let is =
     var-test t (v .work .now) (v .p) (more (drop (v .r) t)) _ (c .before .before .before .before .before .before .before .before .before .before .span-after .result) (c .before .before .before .before .before .before .before .before .span-after2 .result)
     (x .name) n (p .2) (c .before .before .before .before .before .before .may-declare .ensures) in
-    put-on t (v .work .now) (v .p) (v .r) Var refl is (not-false _ (c .before .before .before .before .before .if1 .left))
+    put-on t (v .work .now) (v .p) (v .r) Var refl (c .before .before .before .before .before .before .may-declare .result) is (not-false _ (c .before .before .before .before .before .if1 .left))
     (at-end (c .before .before .before .put-local .ensures .1)
     (c .moved .ensures ∙ (λ j. moved (v .p) (c .before .before .before .put-local .ensures .0 j) (v .p .above) (v .p .main)))
     (var-line t (v .work .now) (v .p) (more (drop (v .r) t)) (c .before .before .before .before .before .before .before .before .span-after2 .result) (c .before .before .before .before .before .before .before .before .before .before .span-after .result) (p .0) (room-as Var refl (p .3)) (x .name) n s g))

@@ -15,32 +15,32 @@ put-formula-requires c κs =
 enum-known-p : tie.Need-enum-known-p
 enum-known-p c = search needs
 
-enum-told : tie.Need-enum-told
-enum-told c = search needs
-
-same-length : tie.Need-same-length
-same-length c = search needs
-
-returns : tie.Need-returns
-returns c =
-    claim-bad _ _ _ _ _ _ _ (c .before .before .before .before .put-formula .ensures) (c .enum-told .given .1) _ _ _
+enum-known-p-2 : tie.Need-enum-known-p-2
+enum-known-p-2 c = search needs
 
 formula-first-requires : tie.Need-formula-first-requires
 formula-first-requires c κs = let p = c .before .before .before .before .before .before .before .before .before .pre in omega (arith, p .1 .formula .room)
 
-sub-t17 : tie.Need-sub-t17
-sub-t17 c =
+sub-t19 : tie.Need-sub-t19
+sub-t19 c =
     let p = c .before .before .before .before .before .before .before .before .before .before .before .pre in
     let v = c .before .before .before .before .before .before .before .before .before .before .before .args in
-    let y = tried-done _ _ _ _ _ _ _ (c .before .before .before .before .before .before .before .put-formula .ensures) _ (c .before .before .before .p .given .1) in
+    let y = tried-done _ _ _ _ _ _ _ (c .before .before .before .before .before .before .before .put-formula .ensures) _ (c .before .before .before .p2 .given .1) in
     omega (arith, claim-least (v .kind) (v .i) (v .line) (p .0) (p .1) (y .1) (p .3) (c .before .formula-first .ensures))
 
 put-row-requires : tie.Need-put-row-requires
 put-row-requires c κs =
     let p = c .before .before .before .before .before .before .before .before .before .before .before .pre in
     let v = c .before .before .before .before .before .before .before .before .before .before .before .args in
-    let y = tried-done _ _ _ _ _ _ _ (c .before .before .before .before .before .before .before .put-formula .ensures) _ (c .before .before .before .p .given .1) in
+    let y = tried-done _ _ _ _ _ _ _ (c .before .before .before .before .before .before .before .put-formula .ensures) _ (c .before .before .before .p2 .given .1) in
     (y .1 .size ∙ p .0 .whole, (p .2, claim-bytes (v .kind) (v .i) (v .line) (p .0) (p .1) (y .1) (p .3) (c .before .formula-first .ensures)))
+
+same-length : tie.Need-same-length
+same-length c = search needs
+
+returns : tie.Need-returns
+returns c =
+    claim-bad _ _ _ _ _ _ _ (c .before .before .before .before .before .put-formula .ensures) (c .before .p .given .1) _ _ _
 
 same-length-2 : tie.Need-same-length-2
 same-length-2 c = search needs
@@ -49,7 +49,7 @@ returns-2 : tie.Need-returns-2
 returns-2 c =
     let p = c .before .before .before .before .before .before .before .before .before .before .before .before .before .before .pre in
     let v = c .before .before .before .before .before .before .before .before .before .before .before .before .before .before .args in
-    let y = tried-done _ _ _ _ _ _ _ (c .before .before .before .before .before .before .before .before .before .before .put-formula .ensures) _ (c .before .before .before .before .before .before .p .given .1) in
+    let y = tried-done _ _ _ _ _ _ _ (c .before .before .before .before .before .before .before .before .before .before .put-formula .ensures) _ (c .before .before .before .before .before .before .p2 .given .1) in
     claim-done _ _ _ _ _ _ _ _ _ _ (y .0) (claim-put (v .kind) (v .i) (v .line) (p .0) (p .1) (y .1) (p .3) (p .2) (c .before .before .before .before .formula-first .ensures) _ (c .before .before .put-row .ensures))
 
 pub put-claim-spec : {M : Type 1} → statement M
@@ -58,11 +58,11 @@ put-claim-spec =
     (tie.spec
     put-formula-requires
     enum-known-p
-    enum-told
+    enum-known-p-2
+    formula-first-requires
+    sub-t19
+    put-row-requires
     same-length
     returns
-    formula-first-requires
-    sub-t17
-    put-row-requires
     same-length-2
     returns-2)

@@ -12,27 +12,27 @@ put-formula-requires c κs = let p = c .before .before .before .pre in (p .0, fo
 enum-known-p : tie.Need-enum-known-p
 enum-known-p c = search needs
 
-enum-told : tie.Need-enum-told
-enum-told c = search needs
+enum-known-p-2 : tie.Need-enum-known-p-2
+enum-known-p-2 c = search needs
+
+sub-put-ensures : tie.Need-sub-put-ensures
+sub-put-ensures c =
+    let y = tried-done _ _ _ _ _ _ _ (c .before .before .before .before .before .before .put-formula .ensures) _ (c .before .before .p2 .given .1) in
+    omega (arith, y .1 .count)
+
+put-ensures-requires : tie.Need-put-ensures-requires
+put-ensures-requires c κs =
+    let p = c .before .before .before .before .before .before .before .before .before .before .pre in
+    let y = tried-done _ _ _ _ _ _ _ (c .before .before .before .before .before .before .put-formula .ensures) _ (c .before .before .p2 .given .1) in
+    let b = header-bytes (p .1) (p .2) (y .1) in
+    ((y .1 .size ∙ p .0 .whole, p .2), (b .0, b .1))
 
 same-length : tie.Need-same-length
 same-length c = search needs
 
 returns : tie.Need-returns
 returns c =
-    header-bad _ _ _ _ _ _ _ (c .before .before .before .before .put-formula .ensures) (c .enum-told .given .1) _ _
-
-sub-put-ensures : tie.Need-sub-put-ensures
-sub-put-ensures c =
-    let y = tried-done _ _ _ _ _ _ _ (c .before .before .before .before .before .before .put-formula .ensures) _ (c .before .before .p .given .1) in
-    omega (arith, y .1 .count)
-
-put-ensures-requires : tie.Need-put-ensures-requires
-put-ensures-requires c κs =
-    let p = c .before .before .before .before .before .before .before .before .before .before .pre in
-    let y = tried-done _ _ _ _ _ _ _ (c .before .before .before .before .before .before .put-formula .ensures) _ (c .before .before .p .given .1) in
-    let b = header-bytes (p .1) (p .2) (y .1) in
-    ((y .1 .size ∙ p .0 .whole, p .2), (b .0, b .1))
+    header-bad _ _ _ _ _ _ _ (c .before .before .before .before .before .put-formula .ensures) (c .before .p .given .1) _ _
 
 same-length-2 : tie.Need-same-length-2
 same-length-2 c = search needs
@@ -40,7 +40,7 @@ same-length-2 c = search needs
 returns-2 : tie.Need-returns-2
 returns-2 c =
     let p = c .before .before .before .before .before .before .before .before .before .before .before .before .before .pre in
-    let y = tried-done _ _ _ _ _ _ _ (c .before .before .before .before .before .before .before .before .before .put-formula .ensures) _ (c .before .before .before .before .before .p .given .1) in
+    let y = tried-done _ _ _ _ _ _ _ (c .before .before .before .before .before .before .before .before .before .put-formula .ensures) _ (c .before .before .before .before .before .p2 .given .1) in
     header-done _ _ _ _ _ _ _ _ _ (y .0) (ensures-put (p .1) (p .2) (y .1) (c .before .before .put-ensures .ensures))
 
 pub put-ensures-spec : {M : Type 1} → statement M
@@ -49,10 +49,10 @@ put-ensures-spec =
     (tie.spec
     put-formula-requires
     enum-known-p
-    enum-told
-    same-length
-    returns
+    enum-known-p-2
     sub-put-ensures
     put-ensures-requires
+    same-length
+    returns
     same-length-2
     returns-2)

@@ -28,8 +28,8 @@ variable-at-requires-2 c κs = search needs
 variable-at-requires-3 : tie.Need-variable-at-requires-3
 variable-at-requires-3 c κs = search needs
 
-may-compute-requires : tie.Need-may-compute-requires
-may-compute-requires c κs = (c .before .before .before .before .before .before .before .before .before .before .pre .0 .whole, c .before .before .variable-at .ensures .within, c .before .variable-at2 .ensures .within, c .variable-at3 .ensures .within)
+judge-compute-requires : tie.Need-judge-compute-requires
+judge-compute-requires c κs = (c .before .before .before .before .before .before .before .before .before .before .pre .0 .whole, c .before .before .variable-at .ensures .within, c .before .variable-at2 .ensures .within, c .variable-at3 .ensures .within)
 
 row-requires : tie.Need-row-requires
 row-requires c κs = search needs
@@ -41,7 +41,7 @@ returns : tie.Need-returns
 returns c =
     let v = c .before .before .before .before .before .before .before .before .before .before .before .before .before .args in
     compute-tried (v .text .now) (v .work .now) (v .c) (v .r) (v .line) (c .row-if .result) (c .before .before .before .before .before .before .before .before .before .before .span-after .ensures) (c .before .before .before .before .before .before .before .before .span-after2 .ensures) (c .before .before .before .before .before .before .span-after3 .ensures)
-    (c .before .before .before .before .before .variable-at .ensures) (c .before .before .before .before .variable-at2 .ensures) (c .before .before .before .variable-at3 .ensures) (c .before .before .may-compute .ensures) (c .before .row .ensures) (c .row-if .ensures)
+    (c .before .before .before .before .before .variable-at .ensures) (c .before .before .before .before .variable-at2 .ensures) (c .before .before .before .variable-at3 .ensures) (c .before .before .judge-compute .ensures) (c .before .row .ensures) (c .row-if .ensures)
 
 pub compute-row-spec : {M : Type 1} → statement M
 compute-row-spec =
@@ -55,7 +55,7 @@ compute-row-spec =
     variable-at-requires
     variable-at-requires-2
     variable-at-requires-3
-    may-compute-requires
+    judge-compute-requires
     row-requires
     row-if-requires
     returns)

@@ -22,8 +22,8 @@ name-in-requires c κs = search needs
 class-number-requires : tie.Need-class-number-requires
 class-number-requires c κs = search needs
 
-new-fits-requires : tie.Need-new-fits-requires
-new-fits-requires c κs = (c .before .before .before .before .before .before .before .before .pre .0 .whole, c .before .before .variable-at .ensures .within)
+judge-new-requires : tie.Need-judge-new-requires
+judge-new-requires c κs = (c .before .before .before .before .before .before .before .before .pre .0 .whole, c .before .before .variable-at .ensures .within)
 
 row-requires : tie.Need-row-requires
 row-requires c κs = search needs
@@ -35,7 +35,7 @@ returns : tie.Need-returns
 returns c =
     let v = c .before .before .before .before .before .before .before .before .before .before .before .args in
     new-tried (v .text .now) (v .work .now) (v .c) (v .r) (v .line) (c .row-if .result) (c .before .before .before .before .before .before .before .before .span-after .ensures) (c .before .before .before .before .before .before .span-after2 .ensures) (c .before .before .before .before .before .variable-at .ensures)
-    (c .before .before .before .before .name-in .ensures) (c .before .before .before .class-number .ensures .0) (c .before .before .new-fits .ensures) (c .before .row .ensures) (c .row-if .ensures)
+    (c .before .before .before .before .name-in .ensures) (c .before .before .before .class-number .ensures .0) (c .before .before .judge-new .ensures) (c .before .row .ensures) (c .row-if .ensures)
 
 pub new-row-spec : {M : Type 1} → statement M
 new-row-spec =
@@ -47,7 +47,7 @@ new-row-spec =
     variable-at-requires
     name-in-requires
     class-number-requires
-    new-fits-requires
+    judge-new-requires
     row-requires
     row-if-requires
     returns)

@@ -1,7 +1,7 @@
 -- `write_plain::plain_row` meets its contract. Assumes nothing.
 use borrow.Author.Tests.{ne-eqb}
 use Rattle.rules.specs.Grammar.{statementNumber, isComputing}
-use Rattle.write_plain.specs.Plain.{plainRow, plainGood}
+use Rattle.write_plain.specs.Plain.{plainRow, plainJudged}
 use borrow.Author.Needs.{needs}
 use Rattle.write_plain.proofs.plain_row.Statement.{statement}
 use Rattle.write_plain.proofs.plain_row.Tie as tie
@@ -37,39 +37,39 @@ row-if-requires : tie.Need-row-if-requires
 row-if-requires c κs = search needs
 
 returns : tie.Need-returns
-unfolding plainRow plainGood
+unfolding plainRow plainJudged
 returns c = rw (c .before .match .keys1) (c .set-row .ensures)
 
 returns-2 : tie.Need-returns-2
-unfolding plainRow plainGood
+unfolding plainRow plainJudged
 returns-2 c = rw (c .before .match .keys2) (c .new-row .ensures)
 
 returns-3 : tie.Need-returns-3
-unfolding plainRow plainGood
+unfolding plainRow plainJudged
 returns-3 c = rw (c .before .match .keys3) (c .call-row .ensures)
 
 returns-4 : tie.Need-returns-4
-unfolding plainRow plainGood
+unfolding plainRow plainJudged
 returns-4 c = rw (c .before .match .keys4) (c .return-row .ensures)
 
 returns-5 : tie.Need-returns-5
-unfolding plainRow plainGood isComputing statementNumber
+unfolding plainRow plainJudged isComputing statementNumber
 returns-5 c = rw (c .before .match .keys5) (c .compute-row .ensures)
 
 returns-6 : tie.Need-returns-6
-unfolding plainRow plainGood isComputing statementNumber
+unfolding plainRow plainJudged isComputing statementNumber
 returns-6 c = rw (c .before .match .keys6) (c .compute-row2 .ensures)
 
 returns-7 : tie.Need-returns-7
-unfolding plainRow plainGood isComputing statementNumber
+unfolding plainRow plainJudged isComputing statementNumber
 returns-7 c = rw (c .before .match .keys7) (c .open-row .ensures)
 
 returns-8 : tie.Need-returns-8
-unfolding plainRow plainGood isComputing statementNumber
+unfolding plainRow plainJudged isComputing statementNumber
 returns-8 c = rw (c .before .match .keys8) (c .shut-row .ensures)
 
 returns-9 : tie.Need-returns-9
-unfolding plainRow plainGood isComputing statementNumber
+unfolding plainRow plainJudged isComputing statementNumber
 returns-9 c =
     let r = c .before .before .match .rest in
     let s = r .0 .0 in

@@ -26,10 +26,13 @@ variable-type-requires : tie.Need-variable-type-requires
 variable-type-requires c κs = search needs
 
 type-of-requires : tie.Need-type-of-requires
-type-of-requires c κs = (c .before .before .before .before .before .before .before .pre .0 .whole, c .before .before .before .variable-at .ensures .within)
+type-of-requires c κs = search needs
 
 same-name-requires : tie.Need-same-name-requires
 same-name-requires c κs = search needs
+
+test-requires : tie.Need-test-requires
+test-requires c κs = search needs
 
 row-requires : tie.Need-row-requires
 row-requires c κs = search needs
@@ -40,9 +43,9 @@ row-if-requires c κs = search needs
 returns-2 : tie.Need-returns-2
 unfolding bytes
 returns-2 c =
-    let v = c .before .before .before .before .before .before .before .before .before .before .before .args in
-    return-tried (v .text .now) (v .work .now) (v .c) (v .r) (v .line) (c .before .before .before .before .before .before .before .before .span-after .ensures) (c .before .before .before .before .before .before .before .variable-at .ensures) (c .before .before .before .before .variable-type .result) (c .row-if .result) (lt-ltb _ _ (c .before .before .before .before .before .before .if1 .left))
-    (c .before .before .before .before .variable-type .ensures) (c .before .before .before .type-of .ensures) (c .before .before .same-name .ensures) (c .before .row .ensures) (c .row-if .ensures)
+    let v = c .before .before .before .before .before .before .before .before .before .before .before .before .args in
+    return-tried (v .text .now) (v .work .now) (v .c) (v .r) (v .line) (c .before .before .before .before .before .before .before .before .before .span-after .ensures) (c .before .before .before .before .before .before .before .before .variable-at .ensures) (c .before .before .before .before .before .variable-type .result) (c .row-if .result)
+    (lt-ltb _ _ (c .before .before .before .before .before .before .before .if1 .left)) (c .before .before .before .before .before .variable-type .ensures) (c .before .before .before .before .type-of .ensures) (c .before .before .before .same-name .ensures) (c .before .before .test .ensures) (c .before .row .ensures) (c .row-if .ensures)
 
 pub return-row-spec : {M : Type 1} → statement M
 return-row-spec =
@@ -55,6 +58,7 @@ return-row-spec =
     variable-type-requires
     type-of-requires
     same-name-requires
+    test-requires
     row-requires
     row-if-requires
     returns-2)

@@ -29,10 +29,10 @@ look-path-requires : tie.Need-look-path-requires
 look-path-requires c κs = search needs
 
 variable-at-requires : tie.Need-variable-at-requires
-variable-at-requires c κs = search needs
+variable-at-requires c κs = c .before .before .before .before .before .before .before .before .before .before .pre .0
 
-set-fits-requires : tie.Need-set-fits-requires
-set-fits-requires c κs = (c .before .before .before .before .before .before .before .before .before .before .before .pre .0 .whole, c .variable-at .ensures .within)
+judge-set-requires : tie.Need-judge-set-requires
+judge-set-requires c κs = (c .before .before .before .before .before .before .before .before .before .before .before .pre .0 .whole, c .variable-at .ensures .within)
 
 row-requires : tie.Need-row-requires
 row-requires c κs = search needs
@@ -44,7 +44,7 @@ returns : tie.Need-returns
 returns c =
     let v = c .before .before .before .before .before .before .before .before .before .before .before .before .before .before .args in
     set-tried (v .text .now) (v .work .now) (v .c) (v .r) (v .line) (c .row-if .result) (c .before .before .before .before .before .before .before .before .before .before .before .span-after .ensures) (c .before .before .before .before .before .before .before .before .before .span-after2 .ensures) (c .before .before .before .before .before .before .before .span-after3 .ensures)
-    (c .before .before .before .before .before .before .name-in .ensures) (c .before .before .before .before .before .name-in2 .ensures) (c .before .before .before .before .look-path .ensures) (c .before .before .before .variable-at .ensures) (c .before .before .set-fits .ensures) (c .before .row .ensures) (c .row-if .ensures)
+    (c .before .before .before .before .before .before .name-in .ensures) (c .before .before .before .before .before .name-in2 .ensures) (c .before .before .before .before .look-path .ensures) (c .before .before .before .variable-at .ensures) (c .before .before .judge-set .ensures) (c .before .row .ensures) (c .row-if .ensures)
 
 pub set-row-spec : {M : Type 1} → statement M
 set-row-spec =
@@ -59,7 +59,7 @@ set-row-spec =
     name-in-requires-2
     look-path-requires
     variable-at-requires
-    set-fits-requires
+    judge-set-requires
     row-requires
     row-if-requires
     returns)

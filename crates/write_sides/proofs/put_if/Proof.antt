@@ -62,30 +62,8 @@ resolve-atom-requires c κs =
 enum-known-q : tie.Need-enum-known-q
 enum-known-q c = search needs
 
-enum-told : tie.Need-enum-told
-enum-told c = search needs
-
-same-length : tie.Need-same-length
-same-length c = search needs
-
-returns : tie.Need-returns
-returns c =
-    let start = c .before .before .before .before .before .before .before .before .before .before .before .before .before .before .before .before in
-    let at-span-after = c .before .before .before .before .before .before .before .before .before .before .before .before .before .span-after in
-    let at-span-after2 = c .before .before .before .before .before .before .before .before .before .before .before .span-after2 in
-    let at-span-after3 = c .before .before .before .before .before .before .before .before .before .span-after3 in
-    let at-name-in = c .before .before .before .before .before .before .before .before .name-in in
-    let at-name-in2 = c .before .before .before .before .before .before .before .name-in2 in
-    let at-name-in3 = c .before .before .before .before .before .before .name-in3 in
-    let at-resolve-atom = c .before .before .resolve-atom in
-    let at-byte-at = c .before .before .before .before .before .byte-at in
-    let at-begun-by = c .before .before .before .before .begun-by in
-    let v = start .args in
-    let p = start .pre in
-    let word = if-word (v .text .now) (v .work .now) (v .c) (v .r) (v .i) (v .n) (v .line) (p .0) (p .2) (p .1) (at-span-after .ensures) (at-name-in .ensures) (at-begun-by .ensures ∙ ap begunBy (at-byte-at .ensures)) in
-    if-bad (v .text .now) (v .work .now) (v .c) (v .r) (v .i) (v .n) (v .line) (p .0) (p .2) (p .1) (at-span-after .ensures) (at-span-after2 .ensures)
-    (at-span-after3 .ensures) word (at-name-in2 .ensures) (at-name-in3 .ensures) (at-resolve-atom .result) (c .enum-told .given .1)
-    (at-resolve-atom .ensures)
+enum-known-q-2 : tie.Need-enum-known-q-2
+enum-known-q-2 c = search needs
 
 row-requires : tie.Need-row-requires
 row-requires c κs = search needs
@@ -100,7 +78,7 @@ put-atom-requires c κs =
     let at-name-in2 = c .before .before .before .before .before .before .before .before .before .before .name-in2 in
     let at-name-in3 = c .before .before .before .before .before .before .before .before .before .name-in3 in
     let at-resolve-atom = c .before .before .before .before .before .resolve-atom in
-    let at-q = c .before .before .before .q in
+    let at-q = c .before .before .before .q2 in
     let at-byte-at = c .before .before .before .before .before .before .before .before .byte-at in
     let at-begun-by = c .before .before .before .before .before .before .before .begun-by in
     let v = start .args in
@@ -121,7 +99,7 @@ put-row-requires c κs =
     let at-name-in2 = c .before .before .before .before .before .before .before .before .before .before .before .before .before .before .name-in2 in
     let at-name-in3 = c .before .before .before .before .before .before .before .before .before .before .before .before .before .name-in3 in
     let at-resolve-atom = c .before .before .before .before .before .before .before .before .before .resolve-atom in
-    let at-q = c .before .before .before .before .before .before .before .q in
+    let at-q = c .before .before .before .before .before .before .before .q2 in
     let at-row = c .before .before .before .before .before .row in
     let at-put-atom = c .before .before .before .put-atom in
     let at-byte-at = c .before .before .before .before .before .before .before .before .before .before .before .before .byte-at in
@@ -141,10 +119,32 @@ put-row-requires c κs =
       ),
     )
 
-add-t20 : tie.Need-add-t20
-add-t20 c =
+add-t31 : tie.Need-add-t31
+add-t31 c =
     let start = c .before .before .before .before .before .before .before .before .before .before .before .before .before .before .before .before .before .before .before .before .before .before .before .before .before .before in
     omega (arith, start .pre .1 .room)
+
+same-length : tie.Need-same-length
+same-length c = search needs
+
+returns : tie.Need-returns
+returns c =
+    let start = c .before .before .before .before .before .before .before .before .before .before .before .before .before .before .before .before .before in
+    let at-span-after = c .before .before .before .before .before .before .before .before .before .before .before .before .before .before .span-after in
+    let at-span-after2 = c .before .before .before .before .before .before .before .before .before .before .before .before .span-after2 in
+    let at-span-after3 = c .before .before .before .before .before .before .before .before .before .before .span-after3 in
+    let at-name-in = c .before .before .before .before .before .before .before .before .before .name-in in
+    let at-name-in2 = c .before .before .before .before .before .before .before .before .name-in2 in
+    let at-name-in3 = c .before .before .before .before .before .before .before .name-in3 in
+    let at-resolve-atom = c .before .before .before .resolve-atom in
+    let at-byte-at = c .before .before .before .before .before .before .byte-at in
+    let at-begun-by = c .before .before .before .before .before .begun-by in
+    let v = start .args in
+    let p = start .pre in
+    let word = if-word (v .text .now) (v .work .now) (v .c) (v .r) (v .i) (v .n) (v .line) (p .0) (p .2) (p .1) (at-span-after .ensures) (at-name-in .ensures) (at-begun-by .ensures ∙ ap begunBy (at-byte-at .ensures)) in
+    if-bad (v .text .now) (v .work .now) (v .c) (v .r) (v .i) (v .n) (v .line) (p .0) (p .2) (p .1) (at-span-after .ensures) (at-span-after2 .ensures)
+    (at-span-after3 .ensures) word (at-name-in2 .ensures) (at-name-in3 .ensures) (at-resolve-atom .result) (c .before .q .given .1)
+    (at-resolve-atom .ensures)
 
 same-length-2 : tie.Need-same-length-2
 same-length-2 c = search needs
@@ -159,7 +159,7 @@ returns-2 c =
     let at-name-in2 = c .before .before .before .before .before .before .before .before .before .before .before .before .before .before .before .before .before .name-in2 in
     let at-name-in3 = c .before .before .before .before .before .before .before .before .before .before .before .before .before .before .before .before .name-in3 in
     let at-resolve-atom = c .before .before .before .before .before .before .before .before .before .before .before .before .resolve-atom in
-    let at-q = c .before .before .before .before .before .before .before .before .before .before .q in
+    let at-q = c .before .before .before .before .before .before .before .before .before .before .q2 in
     let at-row = c .before .before .before .before .before .before .before .before .row in
     let at-put-atom = c .before .before .before .before .before .before .put-atom in
     let at-put-row = c .before .before .put-row in
@@ -188,12 +188,12 @@ put-if-spec =
     begun-by-requires
     resolve-atom-requires
     enum-known-q
-    enum-told
-    same-length
-    returns
+    enum-known-q-2
     row-requires
     put-atom-requires
     put-row-requires
-    add-t20
+    add-t31
+    same-length
+    returns
     same-length-2
     returns-2)

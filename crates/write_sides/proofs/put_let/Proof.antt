@@ -4,7 +4,6 @@ use mathlib.Core.Bool.{true}
 use mathlib.Core.Logic.{inl}
 use native.Mathlib.Omega.{arith}
 use lib.ListN.{length}
-use borrow.Author.Tests.{not-true, not-false}
 use Rattle.rules.specs.Text.{isExpr}
 use Rattle.tables.specs.declared.Expr as Tables
 use Rattle.write_rows.specs.Puts.{putRow, RowBytes}
@@ -47,32 +46,17 @@ look-requires c κs =
           .0) (p .2) (p .1)),
     )
 
-let-fits-requires : tie.Need-let-fits-requires
-let-fits-requires c κs = search needs
+judge-let-requires : tie.Need-judge-let-requires
+judge-let-requires c κs = (c .before .before .before .before .before .before .before .before .before .before .before .before .pre .0 .whole, c .before .before .before .before .variable .ensures .within)
+
+enum-known-v : tie.Need-enum-known-v
+enum-known-v c = search needs
 
 same-length : tie.Need-same-length
 same-length c = search needs
 
 returns : tie.Need-returns
 returns c =
-    let start = c .before .before .before .before .before .before .before .before .before .before .before .before .before .before in
-    let at-span-after = c .before .before .before .before .before .before .before .before .before .before .before .span-after in
-    let at-span-after2 = c .before .before .before .before .before .before .before .before .before .span-after2 in
-    let at-name-in = c .before .before .before .before .before .before .before .name-in in
-    let at-variable = c .before .before .before .before .before .before .variable in
-    let at-name-in2 = c .before .before .before .before .name-in2 in
-    let at-look = c .before .before .before .look in
-    let v = start .args in
-    let p = start .pre in
-    let-bad (v .text .now) (v .work .now) (v .c) (v .r) (v .i) (v .n) (v .line) (p .0) (p .2) (p .1) (at-span-after .ensures) (at-span-after2
-    .ensures) (at-name-in .ensures) (at-name-in2 .ensures) (at-variable .ensures) (at-look .ensures) (c .before .let-fits .ensures) (not-true _ (c
-    .if1 .taken))
-
-row-requires : tie.Need-row-requires
-row-requires c κs = search needs
-
-put-atom-requires : tie.Need-put-atom-requires
-put-atom-requires c κs =
     let start = c .before .before .before .before .before .before .before .before .before .before .before .before .before .before .before .before in
     let at-span-after = c .before .before .before .before .before .before .before .before .before .before .before .before .before .span-after in
     let at-span-after2 = c .before .before .before .before .before .before .before .before .before .before .before .span-after2 in
@@ -80,36 +64,54 @@ put-atom-requires c κs =
     let at-variable = c .before .before .before .before .before .before .before .before .variable in
     let at-name-in2 = c .before .before .before .before .before .before .name-in2 in
     let at-look = c .before .before .before .before .before .look in
-    let at-let-fits = c .before .before .before .let-fits in
-    let at-if1 = c .before .before .if1 in
+    let v = start .args in
+    let p = start .pre in
+    let-bad (v .text .now) (v .work .now) (v .c) (v .r) (v .i) (v .n) (v .line) (p .0) (p .2) (p .1) (at-span-after .ensures) (at-span-after2
+    .ensures) (at-name-in .ensures) (at-name-in2 .ensures) (at-variable .ensures) (at-look .ensures) (c .before .before .before .judge-let .ensures) (c .before .v .given .1)
+
+enum-told : tie.Need-enum-told
+enum-told c = search needs
+
+row-requires : tie.Need-row-requires
+row-requires c κs = search needs
+
+put-atom-requires : tie.Need-put-atom-requires
+put-atom-requires c κs =
+    let start = c .before .before .before .before .before .before .before .before .before .before .before .before .before .before .before .before .before in
+    let at-span-after = c .before .before .before .before .before .before .before .before .before .before .before .before .before .before .span-after in
+    let at-span-after2 = c .before .before .before .before .before .before .before .before .before .before .before .before .span-after2 in
+    let at-name-in = c .before .before .before .before .before .before .before .before .before .before .name-in in
+    let at-variable = c .before .before .before .before .before .before .before .before .before .variable in
+    let at-name-in2 = c .before .before .before .before .before .before .before .name-in2 in
+    let at-look = c .before .before .before .before .before .before .look in
+    let at-judge-let = c .before .before .before .before .judge-let in
+    let at-told = c .before .before .enum-told in
     let v = start .args in
     let p = start .pre in
     let o = let-atom (v .text .now) (v .work .now) (v .c) (v .r) (v .i) (v .n) (v .line) (p .0) (p .2) (p .1) (at-span-after .ensures) (at-span-after2
-    .ensures) (at-name-in .ensures) (at-name-in2 .ensures) (at-variable .ensures) (at-look .ensures) (at-let-fits .ensures) (not-false _ (at-if1
-    .left)) in
+    .ensures) (at-name-in .ensures) (at-name-in2 .ensures) (at-variable .ensures) (at-look .ensures) (at-judge-let .ensures) (at-told .given .1) in
     ((p .0 .whole, p .1 .room), (omega arith, (side-bytes Tables.Expr.Null (o .left), side-bytes _ (o .right))))
 
 put-row-requires : tie.Need-put-row-requires
 put-row-requires c κs =
-    let start = c .before .before .before .before .before .before .before .before .before .before .before .before .before .before .before .before .before .before .before .before in
-    let at-span-after = c .before .before .before .before .before .before .before .before .before .before .before .before .before .before .before .before .before .span-after in
-    let at-span-after2 = c .before .before .before .before .before .before .before .before .before .before .before .before .before .before .before .span-after2 in
-    let at-name-in = c .before .before .before .before .before .before .before .before .before .before .before .before .before .name-in in
-    let at-variable = c .before .before .before .before .before .before .before .before .before .before .before .before .variable in
-    let at-name-in2 = c .before .before .before .before .before .before .before .before .before .before .name-in2 in
-    let at-look = c .before .before .before .before .before .before .before .before .before .look in
-    let at-let-fits = c .before .before .before .before .before .before .before .let-fits in
-    let at-if1 = c .before .before .before .before .before .before .if1 in
+    let start = c .before .before .before .before .before .before .before .before .before .before .before .before .before .before .before .before .before .before .before .before .before in
+    let at-span-after = c .before .before .before .before .before .before .before .before .before .before .before .before .before .before .before .before .before .before .span-after in
+    let at-span-after2 = c .before .before .before .before .before .before .before .before .before .before .before .before .before .before .before .before .span-after2 in
+    let at-name-in = c .before .before .before .before .before .before .before .before .before .before .before .before .before .before .name-in in
+    let at-variable = c .before .before .before .before .before .before .before .before .before .before .before .before .before .variable in
+    let at-name-in2 = c .before .before .before .before .before .before .before .before .before .before .before .name-in2 in
+    let at-look = c .before .before .before .before .before .before .before .before .before .before .look in
+    let at-judge-let = c .before .before .before .before .before .before .before .before .judge-let in
+    let at-told = c .before .before .before .before .before .before .enum-told in
     let at-row = c .before .before .before .before .before .row in
     let at-put-atom = c .before .before .before .put-atom in
     let v = start .args in
     let p = start .pre in
     let o = let-atom (v .text .now) (v .work .now) (v .c) (v .r) (v .i) (v .n) (v .line) (p .0) (p .2) (p .1) (at-span-after .ensures) (at-span-after2
-    .ensures) (at-name-in .ensures) (at-name-in2 .ensures) (at-variable .ensures) (at-look .ensures) (at-let-fits .ensures) (not-false _ (at-if1
-    .left)) in
+    .ensures) (at-name-in .ensures) (at-name-in2 .ensures) (at-variable .ensures) (at-look .ensures) (at-judge-let .ensures) (at-told .given .1) in
     let b = one-bytes 9 _ _ _ (inl refl) (let-variable (v .text .now) (v .work .now) (v .c) (v .r) (v .i) (v .n) (v .line) (p .0) (p .2) (p .1)
     (at-span-after .ensures) (at-span-after2 .ensures) (at-name-in .ensures) (at-name-in2 .ensures) (at-variable .ensures) (at-look .ensures)
-    (at-let-fits .ensures) (not-false _ (at-if1 .left))) (p .1 .room) (p .3) in (
+    (at-judge-let .ensures) (at-told .given .1)) (p .1 .room) (p .3) in (
       ap length (at-put-atom .ensures) ∙ (atom-length _ _ _ Tables.Expr.Null _ (p .0 .whole) (p .1 .room) o ∙ p .0 .whole),
       (
         p .2,
@@ -118,9 +120,9 @@ put-row-requires c κs =
       ),
     )
 
-add-t14 : tie.Need-add-t14
-add-t14 c =
-    let start = c .before .before .before .before .before .before .before .before .before .before .before .before .before .before .before .before .before .before .before .before .before .before .before in
+add-t16 : tie.Need-add-t16
+add-t16 c =
+    let start = c .before .before .before .before .before .before .before .before .before .before .before .before .before .before .before .before .before .before .before .before .before .before .before .before in
     omega (arith, start .pre .1 .room)
 
 same-length-2 : tie.Need-same-length-2
@@ -128,23 +130,22 @@ same-length-2 c = search needs
 
 returns-2 : tie.Need-returns-2
 returns-2 c =
-    let start = c .before .before .before .before .before .before .before .before .before .before .before .before .before .before .before .before .before .before .before .before .before .before .before in
-    let at-span-after = c .before .before .before .before .before .before .before .before .before .before .before .before .before .before .before .before .before .before .before .before .span-after in
-    let at-span-after2 = c .before .before .before .before .before .before .before .before .before .before .before .before .before .before .before .before .before .before .span-after2 in
-    let at-name-in = c .before .before .before .before .before .before .before .before .before .before .before .before .before .before .before .before .name-in in
-    let at-variable = c .before .before .before .before .before .before .before .before .before .before .before .before .before .before .before .variable in
-    let at-name-in2 = c .before .before .before .before .before .before .before .before .before .before .before .before .before .name-in2 in
-    let at-look = c .before .before .before .before .before .before .before .before .before .before .before .before .look in
-    let at-let-fits = c .before .before .before .before .before .before .before .before .before .before .let-fits in
-    let at-if1 = c .before .before .before .before .before .before .before .before .before .if1 in
+    let start = c .before .before .before .before .before .before .before .before .before .before .before .before .before .before .before .before .before .before .before .before .before .before .before .before in
+    let at-span-after = c .before .before .before .before .before .before .before .before .before .before .before .before .before .before .before .before .before .before .before .before .before .span-after in
+    let at-span-after2 = c .before .before .before .before .before .before .before .before .before .before .before .before .before .before .before .before .before .before .before .span-after2 in
+    let at-name-in = c .before .before .before .before .before .before .before .before .before .before .before .before .before .before .before .before .before .name-in in
+    let at-variable = c .before .before .before .before .before .before .before .before .before .before .before .before .before .before .before .before .variable in
+    let at-name-in2 = c .before .before .before .before .before .before .before .before .before .before .before .before .before .before .name-in2 in
+    let at-look = c .before .before .before .before .before .before .before .before .before .before .before .before .before .look in
+    let at-judge-let = c .before .before .before .before .before .before .before .before .before .before .before .judge-let in
+    let at-told = c .before .before .before .before .before .before .before .before .before .enum-told in
     let at-row = c .before .before .before .before .before .before .before .before .row in
     let at-put-atom = c .before .before .before .before .before .before .put-atom in
     let at-put-row = c .before .before .put-row in
     let v = start .args in
     let p = start .pre in
     let-done (v .text .now) (v .work .now) (v .c) (v .r) (v .i) (v .n) (v .line) (p .0) (p .2) (p .1) (at-span-after .ensures) (at-span-after2
-    .ensures) (at-name-in .ensures) (at-name-in2 .ensures) (at-variable .ensures) (at-look .ensures) (at-let-fits .ensures) (not-false _ (at-if1
-    .left)) (at-put-atom .ensures) (at-put-row .ensures ∙ ap (putRow _ (v .i)) (at-row .ensures))
+    .ensures) (at-name-in .ensures) (at-name-in2 .ensures) (at-variable .ensures) (at-look .ensures) (at-judge-let .ensures) (at-told .given .1) (at-put-atom .ensures) (at-put-row .ensures ∙ ap (putRow _ (v .i)) (at-row .ensures))
 
 pub put-let-spec : {M : Type 1} → statement M
 put-let-spec =
@@ -157,12 +158,14 @@ put-let-spec =
     variable-requires
     name-in-requires-2
     look-requires
-    let-fits-requires
+    judge-let-requires
+    enum-known-v
     same-length
     returns
+    enum-told
     row-requires
     put-atom-requires
     put-row-requires
-    add-t14
+    add-t16
     same-length-2
     returns-2)

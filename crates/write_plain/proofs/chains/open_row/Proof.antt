@@ -25,8 +25,8 @@ variable-at-requires c κs = search needs
 chain-at-requires : tie.Need-chain-at-requires
 chain-at-requires c κs = search needs
 
-open-fits-requires : tie.Need-open-fits-requires
-open-fits-requires c κs = (c .before .before .before .before .before .before .before .before .before .pre .0 .whole, c .chain-at .ensures .variable .within, c .before .variable-at .ensures .within)
+judge-open-requires : tie.Need-judge-open-requires
+judge-open-requires c κs = (c .before .before .before .before .before .before .before .before .before .pre .0 .whole, c .chain-at .ensures .variable .within, c .before .variable-at .ensures .within)
 
 row-requires : tie.Need-row-requires
 row-requires c κs = search needs
@@ -38,7 +38,7 @@ returns : tie.Need-returns
 returns c =
     let v = c .before .before .before .before .before .before .before .before .before .before .before .before .args in
     open-tried (v .text .now) (v .work .now) (v .c) (v .r) (v .line) (c .row-if .result) (c .before .before .before .before .before .before .before .before .before .span-after .ensures) (c .before .before .before .before .before .before .before .span-after2 .ensures)
-    (c .before .before .before .before .before .span-after3 .ensures) (c .before .before .before .chain-at .ensures) (c .before .before .before .before .variable-at .ensures) (c .before .before .open-fits .ensures) (c .before .row .ensures) (c .row-if .ensures)
+    (c .before .before .before .before .before .span-after3 .ensures) (c .before .before .before .chain-at .ensures) (c .before .before .before .before .variable-at .ensures) (c .before .before .judge-open .ensures) (c .before .row .ensures) (c .row-if .ensures)
 
 pub open-row-spec : {M : Type 1} → statement M
 open-row-spec =
@@ -51,7 +51,7 @@ open-row-spec =
     span-after-requires-3
     variable-at-requires
     chain-at-requires
-    open-fits-requires
+    judge-open-requires
     row-requires
     row-if-requires
     returns)
