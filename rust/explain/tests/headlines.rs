@@ -112,6 +112,30 @@ fn ever_held(script: &Script, line: u32, path: &str) -> bool {
     false
 }
 
+/// Has a variable a card where a trial comes to a line?
+fn ever_card(script: &Script, line: u32, name: &str) -> bool {
+    let place = script.statement_at(line).expect("a statement");
+    let names = script.names_at(place);
+    let vars = 0..2 + names.block.locals.len();
+    let mut vars = vars.filter(|&var| names.kind(var).is_some() && names.var(var) == name);
+    // The result is what a `return` names, and null at an `end`.
+    let var = match (name, &script.program.statements[place].action) {
+        ("result", Action::Return(x)) => *x,
+        ("result", _) => return false,
+        _ => vars.next().expect("a variable"),
+    };
+    let mut machine = Machine::new(&script.program);
+    while machine.steps < 2_000 {
+        if machine.statement().line == line && machine.frame().values[var] != 0 {
+            return true;
+        }
+        if machine.step() != Ok(Step::On) {
+            break;
+        }
+    }
+    false
+}
+
 /// The words of a line.
 fn words(text: &[u8], line: u32) -> Vec<String> {
     quoted(text, line).split(' ').map(str::to_string).collect()
@@ -157,6 +181,10 @@ fn holds(text: &[u8], line: u32, said: &str) -> Option<&'static str> {
         );
         return Some("computed");
     }
+    if said.ends_with(" is null here") {
+        assert!(!ever_card(&script, line, quotes[0]), "{said}");
+        return Some("null");
+    }
     let kept = said
         .ends_with(" go")
         .then(|| after(said, "line "))
@@ -196,7 +224,7 @@ fn headlines_name_causes_and_are_true() {
         }
     }
     println!("{tried:?}");
-    assert_eq!(tried.len(), 8, "{tried:?}");
+    assert_eq!(tried.len(), 9, "{tried:?}");
 }
 
 /// Every other line that a message names stands below it with its number.
