@@ -3,24 +3,15 @@
 //! of lines that no run reaches the run does none. The texts are the examples, the
 //! scripts of the command's tests and those of the generator.
 
+mod common;
+
+use common::scripts;
 use explain::warn::{warnings, Kind, Warning};
 use explain::Model;
 use model::machine::{Machine, Step};
-use std::path::Path;
 
 /// So many steps of a run that does not finish are looked at.
 const STEPS: u32 = 200_000;
-
-/// The scripts of a folder of the repository.
-fn scripts(folder: &str) -> Vec<Vec<u8>> {
-    let folder = Path::new(env!("CARGO_MANIFEST_DIR")).join(folder);
-    let entries = std::fs::read_dir(folder).expect("a folder");
-    let paths = entries.map(|entry| entry.expect("an entry").path());
-    let scripts = paths.filter(|path| path.extension().is_some_and(|end| end == "script"));
-    scripts
-        .map(|path| std::fs::read(path).expect("a script"))
-        .collect()
-}
 
 fn lines(text: &[u8]) -> Vec<Vec<u8>> {
     let lines = text.split_inclusive(|&byte| byte == b'\n');
