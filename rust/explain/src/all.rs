@@ -140,6 +140,7 @@ impl Pass {
             broken.any(|line| text.contains(&format!("`Z{line}`")))
         };
         cause.notes.retain(|note| !stands(note));
+        cause.head = cause.head.filter(|head| !stands(head));
         (!stands(&cause.text)).then_some(cause)
     }
 

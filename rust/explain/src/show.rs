@@ -256,8 +256,8 @@ impl<'t> Shown<'t> {
 pub fn reasons(out: &mut String, shown: &mut Shown, number: u32, cause: Option<&Cause>) {
     match (cause, explain(number)) {
         (Some(cause), _) => {
-            if cause.head.is_some() {
-                shown.part(out, "  cause: ", &cause.text);
+            if let Some(said) = cause.in_full() {
+                shown.part(out, "  cause: ", said);
             }
             for note in &cause.notes {
                 shown.part(out, "   note: ", note);

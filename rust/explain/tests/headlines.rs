@@ -1,63 +1,15 @@
-//! Headlines, second places and limits, put to the machine: what a headline says of a
-//! line is so, every line that a message names is shown, every reason for number 15 is
-//! listed, and no atom of a contract gets past what is called a limit.
+//! Headlines and second places, put to the machine: what a headline says of a line is so,
+//! every line that a message names is shown, and every reason for number 15 is listed.
 
-use explain::cause::limits::PAGE;
+mod common;
+
+use common::{refused, scripts};
 use explain::script::{quoted, Script};
 use explain::show::{self, Paint};
 use explain::{Asked, Bounded, Model, Report};
 use model::machine::{location, Machine, Step};
 use model::names::{Action, Expr};
 use std::collections::BTreeSet;
-use std::path::Path;
-
-/// The scripts of a folder of the repository.
-fn scripts(folder: &str) -> Vec<Vec<u8>> {
-    let folder = Path::new(env!("CARGO_MANIFEST_DIR")).join(folder);
-    let entries = std::fs::read_dir(folder).expect("a folder");
-    let paths = entries.map(|entry| entry.expect("an entry").path());
-    let scripts = paths.filter(|path| path.extension().is_some_and(|end| end == "script"));
-    scripts
-        .map(|path| std::fs::read(path).expect("a script"))
-        .collect()
-}
-
-/// The text without each of its lines, and each line without each of its atoms.
-fn shortened(text: &[u8]) -> Vec<Vec<u8>> {
-    let lines: Vec<&[u8]> = text.split_inclusive(|&byte| byte == b'\n').collect();
-    let mut found = Vec::new();
-    for at in 0..lines.len() {
-        found.push([&lines[..at], &lines[at + 1..]].concat().concat());
-        let fields: Vec<&[u8]> = lines[at].trim_ascii_end().split(|&b| b == b'\t').collect();
-        let first = match fields[0] {
-            b"requires" | b"ensures" | b"join" => 1,
-            b"loop" => 4,
-            _ => continue,
-        };
-        for atom in (first..fields.len().saturating_sub(2)).step_by(3) {
-            let fewer = [&fields[..atom], &fields[atom + 3..]].concat().join(&b'\t');
-            let fewer = [&fewer[..], b"\n"].concat();
-            found.push(
-                [&lines[..at], &[&fewer], &lines[at + 1..]]
-                    .concat()
-                    .concat(),
-            );
-        }
-    }
-    found
-}
-
-/// Refused texts of every kind.
-fn refused() -> Vec<Vec<u8>> {
-    let mut texts = scripts("../cli/tests/scripts");
-    for text in scripts("../../examples") {
-        texts.extend(shortened(&text));
-        texts.push(text);
-    }
-    texts.extend((0..400).map(|seed| generator::text(0x9200_0000 + seed)));
-    texts.retain(|text| model::check(text).0 != 0);
-    texts
-}
 
 /// The number after a word.
 fn after(said: &str, word: &str) -> Option<u32> {
@@ -112,6 +64,30 @@ fn ever_held(script: &Script, line: u32, path: &str) -> bool {
     false
 }
 
+/// Has a variable a card where a trial comes to a line?
+fn ever_card(script: &Script, line: u32, name: &str) -> bool {
+    let place = script.statement_at(line).expect("a statement");
+    let names = script.names_at(place);
+    let vars = 0..2 + names.block.locals.len();
+    let mut vars = vars.filter(|&var| names.kind(var).is_some() && names.var(var) == name);
+    // The result is what a `return` names, and null at an `end`.
+    let var = match (name, &script.program.statements[place].action) {
+        ("result", Action::Return(x)) => *x,
+        ("result", _) => return false,
+        _ => vars.next().expect("a variable"),
+    };
+    let mut machine = Machine::new(&script.program);
+    while machine.steps < 2_000 {
+        if machine.statement().line == line && machine.frame().values[var] != 0 {
+            return true;
+        }
+        if machine.step() != Ok(Step::On) {
+            break;
+        }
+    }
+    false
+}
+
 /// The words of a line.
 fn words(text: &[u8], line: u32) -> Vec<String> {
     quoted(text, line).split(' ').map(str::to_string).collect()
@@ -157,6 +133,10 @@ fn holds(text: &[u8], line: u32, said: &str) -> Option<&'static str> {
         );
         return Some("computed");
     }
+    if said.ends_with(" is null here") {
+        assert!(!ever_card(&script, line, quotes[0]), "{said}");
+        return Some("null");
+    }
     let kept = said
         .ends_with(" go")
         .then(|| after(said, "line "))
@@ -196,7 +176,7 @@ fn headlines_name_causes_and_are_true() {
         }
     }
     println!("{tried:?}");
-    assert_eq!(tried.len(), 8, "{tried:?}");
+    assert_eq!(tried.len(), 9, "{tried:?}");
 }
 
 /// Every other line that a message names stands below it with its number.
@@ -280,99 +260,4 @@ fn every_reason_for_number_15() {
         several += usize::from(all.len() > 1);
     }
     assert!(several > 10, "{several}");
-}
-
-/// The atoms that a `requires` may have for a permission to a path.
-fn permissions(script: &Script, block: usize) -> Vec<String> {
-    let Some(header) = script.program.blocks[block].header else {
-        return Vec::new();
-    };
-    let param = (header.param.name, header.param.kind);
-    let this = (&b"this"[..], model::names::Type::Class(header.class));
-    let mut atoms = Vec::new();
-    for (name, kind) in [this, param] {
-        let model::names::Type::Class(class) = kind else {
-            continue;
-        };
-        let class = &script.program.classes[script.program.class(class).expect("a class")];
-        for field in &class.fields {
-            let (name, field) = (
-                explain::script::shown(name),
-                explain::script::shown(field.name),
-            );
-            atoms.push(format!("acc\t{name}\t{field}"));
-        }
-    }
-    atoms
-}
-
-/// With no permission that a contract can ask for does the check get past a line that
-/// reads or writes a card behind a link.
-#[test]
-fn what_no_contract_says() {
-    let mut tried = 0;
-    let walks = [
-        "class C|field C prev|field int tag|method int m int none|requires acc this prev|ensures\
-         |var C p|var int k|let p this.prev|let k p.tag|return k|end|main|end|",
-        "class C|field C prev|field int tag|method int m int none|requires ne this null chain \
-         this prev|ensures|var C p|var int k|open p this prev|set p tag k|return k|end|main|end|",
-        "class D|field int n|class C|field D d|method int m C w|requires acc this d acc w d\
-         |ensures|var D p|var int k|let p w.d|let k p.n|return k|end|main|end|",
-    ];
-    let walks = walks.map(|text| text.replace(' ', "\t").replace('|', "\n").into_bytes());
-    for text in refused().into_iter().chain(walks) {
-        let report = Report::of(&mut Model, "a", &text, Asked::Check);
-        let refusal = report.refusal.expect("it is refused");
-        let cause = report.cause.as_ref().expect("a cause");
-        let limit = |note: &&String| note.contains("behind the link");
-        if !cause.notes.iter().any(|note| limit(&note)) {
-            continue;
-        }
-        assert!(cause
-            .notes
-            .iter()
-            .find(limit)
-            .expect("a note")
-            .contains(PAGE));
-        let script = Script::of(&text).expect("a text that is read");
-        let place = script.statement_at(refusal.line()).expect("a statement");
-        let block = script.block_of(place);
-        let (requires, _) = script.contract_lines(block);
-        for atom in permissions(&script, block) {
-            let mut lines: Vec<Vec<u8>> = text.split(|&b| b == b'\n').map(<[u8]>::to_vec).collect();
-            lines[requires as usize - 1].extend(format!("\t{atom}").into_bytes());
-            let (number, line) = model::check(&lines.join(&b'\n'));
-            assert!(
-                number != 0 && line <= refusal.line(),
-                "{atom}: {number} at {line}"
-            );
-            tried += 1;
-        }
-    }
-    assert!(tried > 5, "{tried}");
-}
-
-/// The limits that are not about cards point to the same page.
-#[test]
-fn limits_point_to_the_guide() {
-    for text in [
-        "main|var int a|add a a a|assert eq a 2|end|",
-        "class C|field C prev|main|var C a|var C b|new a C|new b C|set a prev b|set b prev a\
-         |shut b prev|end|",
-        "class C|field C prev|main|var C a|var C b|new a C|let b a.prev.prev|end|",
-    ] {
-        let text = text.replace(' ', "\t").replace('|', "\n");
-        let report = Report::of(&mut Model, "a", text.as_bytes(), Asked::Check);
-        let cause = report.cause.expect("a cause");
-        let pointed = cause
-            .notes
-            .iter()
-            .filter(|note| note.contains(PAGE))
-            .count();
-        assert_eq!(pointed, 1, "{:?}", cause.notes);
-    }
-    let guide = Path::new(env!("CARGO_MANIFEST_DIR")).join("../../docs/LANGUAGE.md");
-    let guide = std::fs::read_to_string(guide).expect("the guide");
-    let title = PAGE.split('"').nth(1).expect("a title");
-    assert!(guide.contains(&format!("\n## {title}\n")), "{title}");
 }

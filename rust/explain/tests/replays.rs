@@ -46,6 +46,27 @@ fn the_last_round() {
     assert!(told > 40, "{told}");
 }
 
+/// Why a run stopped is told however long it was.
+#[test]
+fn a_stop_after_many_steps() {
+    let text = script("main|var int n|var int k|let k 215|loop ne n -1|add n n k|again|end|");
+    let run = model::run(&text, u32::MAX);
+    assert_eq!((run.number, run.line), (27, 6));
+    assert!(run.steps > explain::cause::AGAIN, "{}", run.steps);
+    let cause = stop_cause(&text, Room::WHOLE, run.steps, 27).expect("a cause");
+    let n = i64::from(i32::MAX / 215 * 215);
+    let sum = n + 215;
+    let head = format!("{n} (`n`) plus 215 (`k`) is {sum}, and 2147483647 is the most");
+    assert_eq!(cause.headline(), head);
+    let given = format!(
+        "`n` got its value at line 6 (step {}): `add n n k`",
+        run.steps - 2
+    );
+    let rounds = format!("in the loop of line 5, {} rounds are done", n / 215);
+    assert!(cause.notes.contains(&given), "{:?}", cause.notes);
+    assert!(cause.notes.contains(&rounds), "{:?}", cause.notes);
+}
+
 /// The processor time of this thread where the system tells it, since others use the
 /// machine too; else the time by the clock.
 fn worked(since: Instant) -> Duration {

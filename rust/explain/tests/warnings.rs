@@ -3,24 +3,15 @@
 //! of lines that no run reaches the run does none. The texts are the examples, the
 //! scripts of the command's tests and those of the generator.
 
+mod common;
+
+use common::scripts;
 use explain::warn::{warnings, Kind, Warning};
 use explain::Model;
 use model::machine::{Machine, Step};
-use std::path::Path;
 
 /// So many steps of a run that does not finish are looked at.
 const STEPS: u32 = 200_000;
-
-/// The scripts of a folder of the repository.
-fn scripts(folder: &str) -> Vec<Vec<u8>> {
-    let folder = Path::new(env!("CARGO_MANIFEST_DIR")).join(folder);
-    let entries = std::fs::read_dir(folder).expect("a folder");
-    let paths = entries.map(|entry| entry.expect("an entry").path());
-    let scripts = paths.filter(|path| path.extension().is_some_and(|end| end == "script"));
-    scripts
-        .map(|path| std::fs::read(path).expect("a script"))
-        .collect()
-}
 
 fn lines(text: &[u8]) -> Vec<Vec<u8>> {
     let lines = text.split_inclusive(|&byte| byte == b'\n');
@@ -45,7 +36,7 @@ fn with_line(text: &[u8], number: u32, change: impl Fn(&str) -> String) -> Vec<u
 /// The line without the atom, with blanks for tabs, that a warning names.
 fn without_atom(line: &str, atom: &str) -> String {
     let atom = format!("\t{}", atom.replace(' ', "\t"));
-    let at = format!("{line}\t").rfind(&format!("{atom}\t"));
+    let at = format!("{line}\t").find(&format!("{atom}\t"));
     let at = at.unwrap_or_else(|| panic!("{atom} is not in {line}"));
     format!("{}{}", &line[..at], &line[at + atom.len()..])
 }
@@ -119,13 +110,10 @@ fn holds(text: &[u8], warning: &Warning) {
                 .any(|(done, _)| *done));
         }
         Kind::UnusedPermission => {
-            let back = said.split("and in line ").nth(1);
-            let back = back.map(|rest| rest.split(' ').next().expect("a number"));
             let atom = quoted_last(said);
             let mut less = with_line(text, warning.line, |line| less_at(line, warning));
-            if let Some(back) = back {
-                let back = back.parse().expect("a number");
-                less = with_line(&less, back, |line| without_atom(line, atom));
+            for other in numbers(said.split("and in line").nth(1).unwrap_or_default()) {
+                less = with_line(&less, other, |line| without_atom(line, atom));
             }
             assert!(accepted(&less), "{said}");
         }
@@ -142,6 +130,12 @@ fn holds(text: &[u8], warning: &Warning) {
         }
         _ => panic!("a kind without a test: {said}"),
     }
+}
+
+/// The numbers of a text.
+fn numbers(text: &str) -> Vec<u32> {
+    let words = text.split(|letter: char| !letter.is_ascii_digit());
+    words.filter_map(|word| word.parse().ok()).collect()
 }
 
 /// What stands between the last two signs.
@@ -198,4 +192,107 @@ fn every_warning_is_true() {
     }
     println!("{counts:?}");
     assert!(counts.iter().all(|&count| count > 20), "{counts:?}");
+}
+
+fn script(lines: &str) -> Vec<u8> {
+    lines.replace(' ', "\t").replace('|', "\n").into_bytes()
+}
+
+/// The lines that no run reaches, by each way to know it.
+#[test]
+fn lines_that_no_run_reaches() {
+    let method = |body: &str, main: &str| {
+        format!("class C|field int n|method int m int k|{body}|end|main|var C c|var int r|var int k|{main}|end|")
+    };
+    let calls = "new c C|call r c m k";
+    for (text, first, last, why) in [
+        // Known by the checker, also where the run does not finish.
+        (
+            "main|var int a|let a 1|if eq a 2|let a 3|let a 4|else|join|end|".to_string(),
+            5,
+            6,
+            "`eq a 2` (line 4) is never true",
+        ),
+        (
+            "main|var int a|let a 1|if eq a 1|else|let a 4|join|end|".to_string(),
+            6,
+            6,
+            "`eq a 1` (line 4) is always true",
+        ),
+        (
+            "main|var int a|loop ne 1 1|let a 3|again|end|".to_string(),
+            4,
+            4,
+            "`ne 1 1` (line 3) is never true",
+        ),
+        (
+            "main|var int a|loop eq 1 1|let a 3|again|let a 4|let a 5|end|".to_string(),
+            6,
+            7,
+            "the loop of line 3 is never left, since `eq 1 1` is always true",
+        ),
+        (
+            method(
+                "requires|ensures|if eq k 1|return k|else|return k|join|assert|assert",
+                calls,
+            ),
+            11,
+            12,
+            "every way there returns before",
+        ),
+        // Known by the run alone: the checker does not compute.
+        (
+            "main|var int a|var int b|let a 1|add a a a|if eq a 3|let b 1|else|join|end|"
+                .to_string(),
+            7,
+            7,
+            "its run finishes after 5 steps without coming there",
+        ),
+        // A method that is called on no line that is reached.
+        (
+            method(
+                "requires|ensures|return k",
+                "new c C|if eq 1 2|call r c m k|else|join",
+            ),
+            3,
+            7,
+            "no run reaches a line that calls it",
+        ),
+        (
+            method(
+                "requires|ensures|return k",
+                "new c C|add k k k|if eq k 2|call r c m k|else|join",
+            ),
+            3,
+            7,
+            "its run finishes after 5 steps without coming there",
+        ),
+    ] {
+        let text = script(&text);
+        assert!(accepted(&text), "{why}");
+        let found = warnings(&mut Model, &text);
+        let mut unreached = found.iter().filter(|one| one.kind == Kind::Unreached);
+        let told = unreached.find(|one| one.text.ends_with(why));
+        let told = told.unwrap_or_else(|| panic!("{why}: {found:?}"));
+        assert_eq!((told.line, told.last), (first, last), "{why}");
+        tried(&text, &mut [0; 6]);
+    }
+}
+
+/// What has its use is not told, and neither are lines that have to stand there.
+#[test]
+fn no_warning() {
+    for text in [
+        // A branch that returns, and one that has nothing to do.
+        "main|var int a|if eq a 0|let a 1|else|join|end|",
+        "class C|method int m int k|requires|ensures|if eq k 0|return k|else|return k|join|end|main\
+         |var C c|var int r|var int k|new c C|call r c m k|let k 1|call r c m k|end|",
+        // A `loop` that ends, and its invariant.
+        "class C|field int n|main|var C c|var int a|var int k|new c C|let k 1\
+         |loop ne a 3 acc c n|add a a k|set c n a|again|end|",
+    ] {
+        let text = script(text);
+        let found = warnings(&mut Model, &text);
+        assert_eq!(found, [], "{}", String::from_utf8_lossy(&text));
+    }
 }

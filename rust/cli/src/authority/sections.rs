@@ -40,10 +40,12 @@ fn cause(cause: Option<&Cause>) -> String {
         return String::new();
     };
     let said = |word: &str, said: &str| format!("<p>{word}: {}</p>\n", coded(said));
-    let notes: String = cause.notes.iter().map(|note| said("Note", note)).collect();
+    let notes = cause.notes.iter().map(String::as_str);
+    let notes = cause.in_full().into_iter().chain(notes);
+    let notes: String = notes.map(|note| said("Note", note)).collect();
     let fix = cause.fix.as_ref().map(|fix| said("Fix", &fix.said()));
     let help = cause.help.as_deref().map(|help| said("Help", help));
-    said("Cause", &cause.text) + &notes + &fix.unwrap_or_default() + &help.unwrap_or_default()
+    said("Cause", cause.headline()) + &notes + &fix.unwrap_or_default() + &help.unwrap_or_default()
 }
 
 /// A message: what it has in backquotes is code.

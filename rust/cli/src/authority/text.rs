@@ -45,8 +45,9 @@ fn cause(out: &mut String, cause: Option<&Cause>) {
     let Some(cause) = cause else {
         return;
     };
-    row(out, "cause", &cause.text);
-    for note in &cause.notes {
+    row(out, "cause", cause.headline());
+    let notes = cause.notes.iter().map(String::as_str);
+    for note in cause.in_full().into_iter().chain(notes) {
         row(out, "note", note);
     }
     if let Some(fix) = &cause.fix {

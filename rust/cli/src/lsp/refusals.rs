@@ -31,7 +31,10 @@ pub struct Diagnostic {
 /// The words of a diagnostic.
 fn message(number: u32, why: Option<&Cause>) -> String {
     let title = nuyardi::explain(number).map_or("", |known| known.title);
-    let mut message = why.map_or(title, |cause| &cause.text).to_string();
+    let mut message = why.map_or(title, Cause::headline).to_string();
+    if let Some(said) = why.and_then(Cause::in_full) {
+        message.push_str(&format!("\ncause: {said}"));
+    }
     for note in why.iter().flat_map(|cause| &cause.notes) {
         message.push_str(&format!("\nnote: {note}"));
     }

@@ -3,6 +3,7 @@
 use super::route::{named, names_var, Step};
 use super::rules::Unshown;
 use crate::script::{shown, Names};
+use model::checker::Term;
 use model::names::{Action, Atom, Expr, Path, Var};
 use model::text::Share;
 use model::watch::Record;
@@ -44,11 +45,15 @@ fn permission(names: &Names, share: Share, path: Path) -> String {
     }
 }
 
-/// Nobody gave the block a permission to such a field, if no line of it up to here
-/// had one, by whatever name.
+/// A card that is null has no fields. Nobody gave the block a permission to such a
+/// field, if no line of it up to here had one, by whatever name.
 fn missing(unshown: &Unshown, record: &Record, share: Share, path: Path) -> Option<String> {
     let names = unshown.names();
     let script = unshown.script;
+    let equal = unshown.asked.state.equals(Term::Var(path.var));
+    if equal.contains(&Term::Null) {
+        return Some(format!("`{}` is null here", names.var(path.var)));
+    }
     let start = script.program.blocks[script.block_of(unshown.asked.place)].start;
     let seen = record.seen[start..=unshown.asked.place].iter();
     let states = seen.flat_map(|seen| [&seen.before, &seen.after]).flatten();

@@ -63,6 +63,11 @@ impl Cause {
         self.head.as_deref().unwrap_or(&self.text)
     }
 
+    /// The reason in full, where the headline is not all of it.
+    pub fn in_full(&self) -> Option<&str> {
+        self.head.as_ref().map(|_| self.text.as_str())
+    }
+
     /// The lines that the reason and what else is known name.
     pub fn related(&self) -> Vec<u32> {
         let said = [self.head.as_deref(), Some(&self.text)]

@@ -12,7 +12,8 @@ use model::number::{self, Stop};
 use model::text::{Operator, Share};
 use model::watch::{Halt, Tested};
 
-/// Longer runs are not done again to say more about them.
+/// Longer runs are not done again to show their cards, their calls or their loops; why
+/// one stopped is said of every run.
 pub const AGAIN: u32 = 20_000_000;
 
 /// The machine after so many steps, at the step that stopped.
@@ -111,9 +112,6 @@ pub fn stop_cause(text: &[u8], room: Room, steps: u32, number: u32) -> Option<Ca
     let script = Script::of(text)?;
     if number == number::OUT_OF_STEPS {
         return in_a_loop(&script, steps);
-    }
-    if steps > AGAIN {
-        return None;
     }
     let (mut machine, trail) = Trail::of(&script, steps);
     if machine.steps != steps {

@@ -3,6 +3,7 @@
 //! checked without it, and accepted; a line that no run reaches is one that no step of
 //! any run does, however many steps are allowed.
 
+mod contradiction;
 mod unneeded;
 mod unreached;
 mod unused;

@@ -88,13 +88,15 @@ pub fn atoms<A: Answers>(answers: &mut A, script: &Script) -> Vec<Warning> {
     };
     let mut found = Vec::new();
     for statement in &script.program.statements {
-        let (first, atoms, what) = match &statement.action {
-            Action::Join(formula) => (1, formula.len(), "`join`"),
-            Action::Loop(rounds) => (1 + ATOM, rounds.invariant.len(), "invariant"),
-            _ => continue,
+        let Some((first, atoms)) = kept(&statement.action) else {
+            continue;
+        };
+        let what = match statement.action {
+            Action::Loop(_) => "invariant",
+            _ => "`join`",
         };
         // From the last on: a permission goes only after what reads its path.
-        for place in (0..atoms).rev() {
+        for place in (0..atoms.len()).rev() {
             let spot = Spot::of(statement.line, first, place);
             if search.spares(&[spot]) {
                 let atom = spot.quoted(script.text);
@@ -114,8 +116,29 @@ pub fn atoms<A: Answers>(answers: &mut A, script: &Script) -> Vec<Warning> {
     found
 }
 
-/// The permissions that a method is handed and that nothing needs; where `ensures`
-/// gives one back, it is left out there too.
+/// The formula of a `join` or of an invariant: its first field, and its atoms.
+fn kept<'p, 'a>(action: &'p Action<'a>) -> Option<(usize, &'p [Atom<'a>])> {
+    match action {
+        Action::Join(formula) => Some((1, formula)),
+        Action::Loop(rounds) => Some((1 + ATOM, &rounds.invariant)),
+        _ => None,
+    }
+}
+
+/// Where the method hands an atom of its `requires` on: in each `join` and invariant
+/// that has it.
+fn handed_on(script: &Script, block: usize, atom: &Atom) -> Vec<Spot> {
+    let body = script.program.body(block).iter();
+    let spots = body.filter_map(|statement| {
+        let (first, atoms) = kept(&statement.action)?;
+        let place = atoms.iter().position(|other| other == atom)?;
+        Some(Spot::of(statement.line, first, place))
+    });
+    spots.collect()
+}
+
+/// The permissions that a method is handed and that nothing needs. Each is left out of
+/// `ensures` too, where it is given back, and if need be of what the body hands it on by.
 pub fn permissions<A: Answers>(answers: &mut A, script: &Script) -> Vec<Warning> {
     let mut search = Search {
         answers,
@@ -133,21 +156,29 @@ pub fn permissions<A: Answers>(answers: &mut A, script: &Script) -> Vec<Warning>
             let back = own.ensures.iter().position(|other| other == atom);
             let back = back.map(|place| Spot::of(ensures, 1, place));
             let spots: Vec<Spot> = [spot].into_iter().chain(back).collect();
-            if search.spares(&spots) {
-                found.push(handed(script, block, spot, back));
+            let on = handed_on(script, block, atom);
+            let all = [&spots[..], &on].concat();
+            let mut tries = [spots, all].into_iter();
+            if let Some(spots) = tries.find(|spots| search.spares(spots)) {
+                found.push(handed(script, block, spot, &spots[1..]));
             }
         }
     }
     found
 }
 
-/// A permission that a method is handed and never uses.
-fn handed(script: &Script, block: usize, spot: Spot, back: Option<Spot>) -> Warning {
+/// A permission that a method is handed and never uses, and where else it stands.
+fn handed(script: &Script, block: usize, spot: Spot, others: &[Spot]) -> Warning {
     let atom = spot.quoted(script.text);
     let name = script.names(block).title();
-    let left = match back {
-        Some(back) => format!("without it here and in line {}", back.line),
-        None => "without it".to_string(),
+    let lines: Vec<String> = others.iter().map(|spot| spot.line.to_string()).collect();
+    let left = match &lines[..] {
+        [] => "without it".to_string(),
+        [line] => format!("without it here and in line {line}"),
+        [lines @ .., last] => format!(
+            "without it here and in lines {} and {last}",
+            lines.join(", ")
+        ),
     };
     Warning {
         kind: Kind::UnusedPermission,

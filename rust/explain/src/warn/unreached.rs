@@ -5,14 +5,13 @@
 //! come there. `else`, `join`, `again` and `end` have to stand where they do, and
 //! nothing is said of them.
 
+use super::contradiction::impossible;
 use super::{Kind, Warning};
 use crate::routes::Routes;
 use crate::script::{field_range, line, shown, Script};
 use crate::show::counted;
-use model::checker::{Fact, State, Term};
 use model::machine::{Machine, Step};
-use model::names::{Action, Atom, Branch, Expr, Path};
-use model::text::Share;
+use model::names::{Action, Branch};
 use model::watch::Record;
 
 /// A run that is not finished after so many steps says nothing.
@@ -87,42 +86,6 @@ fn ran(script: &Script) -> Option<Ran> {
         }
     }
     None
-}
-
-/// What can't be in any run: a fact beside its opposite, or more than both halves
-/// of a field.
-fn impossible<'a>(state: &State<'a>) -> bool {
-    let mut facts = state.facts.iter();
-    facts.any(|fact| state.show(&[denied(fact)]).is_ok()) || too_much(state)
-}
-
-/// The opposite of a fact.
-fn denied<'a>(fact: &Fact<'a>) -> Atom<'a> {
-    let side = |term: Term<'a>| match term {
-        Term::Number(value) => Expr::Number(value),
-        Term::Null => Expr::Null,
-        Term::Var(var) => Expr::Var(var),
-        // The checker goes by the names of a path; the slot is the machine's.
-        Term::Path(var, field) => Expr::Path(Path {
-            var,
-            field,
-            slot: 0,
-        }),
-    };
-    let (left, right) = (side(fact.left), side(fact.right));
-    match fact.equal {
-        true => Atom::Ne(left, right),
-        false => Atom::Eq(left, right),
-    }
-}
-
-/// Is one path listed twice, and once whole?
-fn too_much(state: &State) -> bool {
-    let paths = || state.permissions.iter().enumerate();
-    let whole = paths().filter(|(_, held)| held.share == Share::Acc);
-    whole
-        .flat_map(|(at, held)| paths().map(move |(other, more)| (at != other, held, more)))
-        .any(|(apart, held, more)| apart && held.path() == more.path())
 }
 
 /// Which statements some run may reach, as far as the check tells, and why not.
