@@ -1,4 +1,4 @@
-/* What tools/interpreted/main.rt writes, by the functions of libstation.a. */
+/* What tools/interpreted/program writes, by the functions of libstation.a. */
 #include <stddef.h>
 #include <stdint.h>
 #include <stdio.h>
