@@ -5,15 +5,14 @@ use mathlib.Core.List.{[]}
 use Prim.Native.Nat.{ℕ, zero, suc, _≤_, _<_}
 use Prim.Native.String.{String}
 use native.Mathlib.Omega.{arith}
-use lib.Dec.{ltb}
 use lib.ListN.{length, getD}
 use Rattle.rules.specs.Base as Base
 use Rattle.rules.specs.Base.{Name, bytes, is, all, between}
-use Rattle.rules.specs.Syntax.{isPath, own, cmp}
+use Rattle.rules.specs.Syntax.{own, cmp}
 use Rattle.rules.specs.Text as Text
 use Rattle.rules.specs.Text.{isName, isExpr, exprOf, isRel, isPermit, isAtom, atomOf}
-use Rattle.tables.specs.Numbers.{read-atom, chain-atom, eq-atom, ne-atom}
-use Rattle.tables.specs.Decode.{isPermission, permitOf, relOf}
+use Rattle.tables.specs.Numbers.{read-atom, eq-atom, ne-atom}
+use Rattle.tables.specs.Decode.{permitOf, relOf}
 use Rattle.read_bytes.specs.Marks.{wide-bytes}
 use Rattle.read_bytes.proofs.Search.{true-false, both-true, same-is}
 use Rattle.read_atoms.specs.Atoms as Atoms
@@ -58,15 +57,6 @@ some-bytes = of-atom-word (λ w. 0 < length w) (omega arith) (omega arith) (omeg
 pub word-told : (w : Name) → beginsAtom w ≡ true → atomWord (begunBy (getD w 0 0)) ≡ w
 unfolding Atoms.opened bytes
 word-told = of-atom-word (λ w. atomWord (begunBy (getD w 0 0)) ≡ w) refl refl refl refl refl
-
-pub permit-told : (w : Name) → beginsAtom w ≡ true → isPermit w ≡ isPermission (begunBy (getD w 0 0))
-unfolding Atoms.opened Base.opened Text.opened isPermission
-permit-told = of-atom-word (λ w. isPermit w ≡ isPermission (begunBy (getD w 0 0))) refl refl refl refl refl
-
--- a path may be read by `read` and `acc`
-pub path-told : (w : Name) → beginsAtom w ≡ true → isPath (Text.permitOf w) ≡ ltb (begunBy (getD w 0 0)) chain-atom
-unfolding Atoms.opened Base.opened Text.opened isPath
-path-told = of-atom-word (λ w. isPath (Text.permitOf w) ≡ ltb (begunBy (getD w 0 0)) chain-atom) refl refl refl refl refl
 
 -- BY THE KIND
 

@@ -224,10 +224,6 @@ module _ (t w : List ℕ) (from n : ℕ) (b : Bool) (x : Name) where
   unfolding first
   own-none l s = looked-none t w (ownIn t w from n b) x (own-past l ∙ rw s)
 
-pub and-true : (q : Bool) → (q && true) ≡ q
-and-true true = refl
-and-true false = refl
-
 pub looked-type :
     (t w : List ℕ) (vs : List Variable) (x : Name) (v : ℕ) (s : Span) → Looked t w vs x v → s ≡ typeOf w v → nameIn t s ≡ variableType vs x
 looked-type t w vs x v s h p = ap (nameIn t) p ∙ sym (h .type)

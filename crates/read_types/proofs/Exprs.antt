@@ -1,12 +1,11 @@
 -- The expression of a field, by what the field was read as.
 use mathlib.Core.Path.{_≡_, sym, ap, _∙_, subst}
-use mathlib.Core.Bool.{true}
 use Prim.Native.Nat.{ℕ, _+_, _-_, _<_}
 use native.Mathlib.Numerals.{add-one}
 use lib.ListN.{length, take, drop}
 use Rattle.rules.specs.Base.{Name}
 use Rattle.rules.specs.Syntax.{num, null, var, path}
-use Rattle.rules.specs.Text.{numeral, number, exprOf}
+use Rattle.rules.specs.Text.{exprOf}
 use Rattle.read_tokens.specs.declared.Expr.{Expr}
 use Rattle.read_tokens.specs.declared.Expr.the-variants.{Num, Null, Var, Path}
 use Rattle.read_tokens.specs.Expressions.{meant, stands, Reads}
@@ -27,11 +26,6 @@ module _ (w : Name) (e : Expr) (r : Reads w e) where
   read-path d k =
       sym (r .means) ∙ ap (meant w) k
       ∙ ap (path (take d w)) (ap (λ n. drop n w) (sym (add-one d)) ∙ sym (rest-part w (d + 1)))
-
--- a field that begins as a number is one
-pub numeral-num : (w : Name) → numeral w ≡ true → exprOf w ≡ num (number w)
-unfolding exprOf
-numeral-num w h = rw h
 
 pub stop-within : (w : Name) (e : Expr) (d : ℕ) → Reads w e → e ≡ Path d → d < length w
 stop-within w e d r k = subst (stands w) k (r .place) .1

@@ -13,7 +13,7 @@ ghost use Rattle.rules.specs.Limits.{work-bytes};
 ghost use Rattle.rules.specs.Text.{isExpr, exprOf};
 ghost use Rattle.rules.specs.Names.{agree};
 ghost use Rattle.read_names.specs.Rows.{nameIn};
-ghost use Rattle.read_scopes.specs.Meanings.{NamesFit, declarationsIn, variablesIn};
+ghost use Rattle.read_scopes.specs.Meanings.{NamesFit};
 ghost use Rattle.read_lookups.specs.LookUps.{no-variable};
 ghost use Rattle.read_types.specs.Types.{isIntType, typeMeant, mayName, ofOwnClass, MemberIn, ChainIn, LookIn};
 ghost use Rattle.read_types.specs.Verdicts.{test, andThen, lowerFault, lower};

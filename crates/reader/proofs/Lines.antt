@@ -2,16 +2,16 @@
 use mathlib.Core.Path.{_≡_, refl, sym, ap, subst, _∙_}
 use mathlib.Core.Bool.{Bool, true, false, cond, _||_}
 use mathlib.Core.List.{List, []}
-use Prim.Native.Nat.{ℕ, zero, suc, _-_, _≤_, _<_}
+use Prim.Native.Nat.{ℕ, suc, _-_, _≤_, _<_}
 use native.Mathlib.Omega.{arith}
-use lib.Dec.{eqb, eqb·suc-zero}
-use lib.ListN.{length, drop}
-use borrow.Author.Tests.{eqb-true, eqb-false}
+use lib.Dec.{eqb}
+use lib.ListN.{drop}
+use borrow.Author.Tests.{eqb-false}
 use Rattle.rules.specs.Syntax.{Formula}
-use Rattle.rules.specs.Grammar.{Kind, Line, Class, Requires, Ensures, Main, statement, Join, Loop, form, isFormed}
-use Rattle.rules.specs.Grammar.{first-statement, IsKindNumber, kindNumber, statementNumber, isStatement, isKind}
+use Rattle.rules.specs.Grammar.{Kind, Line, Requires, Ensures, statement, Join, Loop, form, isFormed}
+use Rattle.rules.specs.Grammar.{first-statement, IsKindNumber, kindNumber, statementNumber}
 use Rattle.rules.specs.Reading.{framed, framedItem}
-use Rattle.read_bytes.proofs.Search.{true-false, or-false}
+use Rattle.read_bytes.proofs.Search.{or-false}
 use Rattle.read_fields.specs.Cuts.{more}
 use Rattle.read_grammar.specs.Rows.{kindNumbered}
 use Rattle.read_grammar.proofs.Rows.{kind-of-number, kind-numbered}

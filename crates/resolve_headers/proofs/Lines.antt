@@ -424,9 +424,6 @@ module _ {t w : List ℕ} {p : Pass} {ws : List Name} {n : ℕ} (k : Kind) (e : 
   pub room-as : LineRoom t w p (lineWith (kindNumbered n) ws) → LineRoom t w p (lineWith k ws)
   room-as x = subst (LineRoom t w p) (line-is k e) x
 
-  pub put-as : {u : List ℕ} {q : Pass} → DeclarationPut t w p (lineWith k ws) u q → DeclarationPut t w p (lineWith (kindNumbered n) ws) u q
-  put-as {u} {q} x = subst (λ l. DeclarationPut t w p l u q) (sym (line-is k e)) x
-
 pub last-kind : (n : ℕ) → isDeclaration n ≡ true → (n ≡ 1 → ⊥) → n ≡ 6
 unfolding isDeclaration
 last-kind n e a = eqb-true n 6 (rw (ne-eqb n 1 a) at e)

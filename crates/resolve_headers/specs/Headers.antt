@@ -1,20 +1,26 @@
 -- Lines that declare and add no statement row: `class`, `main`, `field`, `method` and `var`.
 use mathlib.Core.Path.{_≡_}
-use mathlib.Core.Bool.{Bool, _||_}
+use mathlib.Core.Bool.{Bool, true, _||_}
 use mathlib.Core.List.{List}
 use Prim.Native.Nat.{ℕ, pred, _+_, _≤_}
 use lib.Dec.{eqb}
 use Rattle.rules.specs.Limits.{most-statements}
 use Rattle.rules.specs.Grammar.{Line, class-kind, main-kind}
+use Rattle.read_grammar.specs.Rows.{kindNumbered}
 use Rattle.tables.specs.Decode.{fieldCountAt}
 use Rattle.read_scopes.specs.declared.Names.{Names}
 use Rattle.read_scopes.specs.declared.Above.{Above}
+use Rattle.read_declarations.specs.Declares.{FormedAfter}
 use Rattle.resolve_pass.specs.declared.Pass.{Pass}
 use Rattle.resolve_pass.specs.Passes.{LinePut}
 
 -- `class` or `main`, by the number of the kind
 unfoldable pub isDeclaration : ℕ → Bool
 isDeclaration k = eqb k class-kind || eqb k main-kind
+
+-- the line of this kind, `class` or `main`, whose word ends at r has its form
+abbrev pub DeclarationFollows : List ℕ → ℕ → ℕ → Type 0
+DeclarationFollows t k r = FormedAfter t r (kindNumbered k) × (isDeclaration k ≡ true)
 
 -- The rows that are written fit, and the last class has as many fields as are counted. Where the tables stand, they do.
 pub record Held (w : List ℕ) (p : Pass) : Type 0 where

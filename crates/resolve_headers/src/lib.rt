@@ -14,10 +14,9 @@ ghost use Rattle.rules.specs.Limits.{most-bytes};
 ghost use Rattle.rules.specs.Grammar.{Class, Field, Method, Var, class-kind, field-kind, method-kind, var-kind};
 ghost use Rattle.tables.specs.Numbers.{half-values};
 ghost use Rattle.read_scopes.specs.Meanings.{AboveFits};
-ghost use Rattle.read_grammar.specs.Rows.{kindNumbered};
 ghost use Rattle.read_declarations.specs.Declares.{FormedAfter};
 ghost use Rattle.resolve_pass.specs.Passes.{PassFits, LineRoom, after, oneMore, withBlock, aboveAfter, lineAfter, LineTried};
-ghost use Rattle.resolve_headers.specs.Headers.{isDeclaration, Held, moved};
+ghost use Rattle.resolve_headers.specs.Headers.{DeclarationFollows, Held, moved};
 
 // THE COUNTS
 
@@ -141,7 +140,7 @@ fn put_main(p: Pass) -> Pass
 
 // Tries the line of this kind (`class` or `main`) whose word ends at r.
 pub fn put_declaration(text: &[u8], work: &mut [u8], p: Pass, kind: u8, r: usize) -> TriedLine
-    requires { ⌜ PassFits (now text) (now work) p × (r ≤ length (now text)) × FormedAfter (now text) r (kindNumbered kind) × LineRoom (now text) (now work) p (lineAfter (now text) r kind) × (isDeclaration kind ≡ true) ⌝ }
+    requires { ⌜ PassFits (now text) (now work) p × (r ≤ length (now text)) × DeclarationFollows (now text) kind r × LineRoom (now text) (now work) p (lineAfter (now text) r kind) ⌝ }
     ensures { λ q. ⌜ LineTried (now (text .entry)) (now (work .entry)) p (lineAfter (now (text .entry)) r kind) (now (work .exit)) q ⌝ }
 {
     match kind {

@@ -16,7 +16,7 @@ use Rattle.rules.specs.Items.{Item, itemOf, aClass, aField, aMethod, aRequires,
 use Rattle.rules.specs.Reading.{framedItem}
 use Rattle.read_fields.specs.Cuts.{more}
 use Rattle.read_grammar.specs.Rows.{kindNumbered}
-use Rattle.tables.specs.Layout.{most-atom-rows, atomLimit, names-at, lines-at}
+use Rattle.tables.specs.Layout.{most-atom-rows, atomLimit, lines-at}
 use Rattle.tables.specs.Decode.{framedFrom}
 use Rattle.tables.specs.Stores.{Kept}
 use Rattle.read_scopes.specs.declared.Names.{Names}

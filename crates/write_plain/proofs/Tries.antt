@@ -9,7 +9,7 @@ use Rattle.rules.specs.Base.{Name, bytes, is, eqName, any}
 use Rattle.rules.specs.Syntax.{path}
 use Rattle.rules.specs.Text.{reserved}
 use Rattle.rules.specs.Scope.{Declarations, Variable}
-use Rattle.rules.specs.Names.{isLocal, isInt, isMethodOf, classNumber, methodNumber, methodOfClass, noDeclaration, variableNumber, variableType}
+use Rattle.rules.specs.Names.{isLocal, isInt, isMethodOf, classNumber, methodNumber, methodOfClass, noDeclaration, variableType}
 use Rattle.read_fields.specs.Cuts.{more}
 use Rattle.read_scopes.specs.declared.Names.{Names}
 use Rattle.read_names.specs.declared.Span.{Span}

@@ -1,4 +1,5 @@
 // The rows of statements that have no atom.
+mod calls;
 mod chains;
 
 use read_names::Span;
@@ -10,15 +11,15 @@ use rules::Kind;
 use tables::Operands;
 ghost use mathlib.Core.Path.{_≡_};
 ghost use Prim.Native.Nat.{_≤_, _<_};
-ghost use lib.ListN.{length, getD};
+ghost use lib.ListN.{length};
 ghost use Rattle.rules.specs.Limits.{work-bytes, most-statements};
-ghost use Rattle.rules.specs.Names.{isLocal, noDeclaration};
+ghost use Rattle.rules.specs.Names.{isLocal};
 ghost use Rattle.tables.specs.Numbers.{half-values};
 ghost use Rattle.tables.specs.Layout.{frame-variables};
 ghost use Rattle.read_names.specs.Rows.{nameIn};
-ghost use Rattle.read_scopes.specs.Meanings.{AreaFits, declarationsIn, variablesIn};
+ghost use Rattle.read_scopes.specs.Meanings.{AreaFits, variablesIn};
 ghost use Rattle.read_lookups.specs.LookUps.{Looked};
-ghost use Rattle.write_plain.specs.Plain.{bare, setRow, newRow, callRow, returnRow, computeRow, plainRow, setJudged, newJudged, callJudged, returnJudged, computeJudged, plainJudged, RowTried, TriedAfter, maySet, mayHold, areKnown, mayName, mayTake, agreeWith, mayCall, mayCompute, PlainFollows, PlainTried};
+ghost use Rattle.write_plain.specs.Plain.{bare, setRow, newRow, returnRow, computeRow, plainRow, setJudged, newJudged, returnJudged, computeJudged, plainJudged, RowTried, TriedAfter, maySet, mayHold, mayCompute, PlainFollows, PlainTried};
 
 // The row of a line, or why the line is refused.
 pub enum TriedRow {
@@ -138,110 +139,6 @@ fn new_row(text: &[u8], work: &[u8], c: Names, r: usize, line: usize) -> TriedRo
     row_if(v, row(Kind::NEW, x, 0, 0, k, line))
 }
 
-// Are x, y and z variables?
-fn are_known(x: usize, y: usize, z: usize) -> bool
-    ensures { λ r. ⌜ r ≡ areKnown x y z ⌝ }
-{
-    if read_names::NO_VARIABLE <= x {
-        return false;
-    }
-    if read_names::NO_VARIABLE <= y {
-        return false;
-    }
-    z < read_names::NO_VARIABLE
-}
-
-// May a line name the method named at m of a class, if i, of n methods, is its number?
-fn judge_method(text: &[u8], class: Span, m: Span, i: usize, n: usize) -> Verdict
-    ensures { λ r. ⌜ r ≡ mayName (now (text .entry)) class m i n ⌝ }
-{
-    if read_words::is_reserved(read_names::name_in(text, m)) {
-        return Verdict::Bad(Fault::Undeclared);
-    }
-    if read_lookups::is_int(text, class) {
-        return Verdict::Bad(Fault::WrongType);
-    }
-    read_types::test(i < n, Fault::Undeclared)
-}
-
-// May a call that reads y and z assign to x?
-fn judge_target(x: usize, y: usize, z: usize) -> Verdict
-    ensures { λ r. ⌜ r ≡ mayTake x y z ⌝ }
-{
-    if !is_local(x) {
-        return Verdict::Bad(Fault::WrongTarget);
-    }
-    if x == y {
-        return Verdict::Bad(Fault::WrongTarget);
-    }
-    read_types::test(x != z, Fault::WrongTarget)
-}
-
-// Are x and z of the types of the result and of the parameter of the method i?
-fn call_agrees(text: &[u8], work: &[u8], c: Names, x: usize, z: usize, i: usize) -> bool
-    requires { ⌜ AreaFits (now work) c × (x ≤ frame-variables) × (z ≤ frame-variables) ⌝ }
-    ensures { λ r. ⌜ r ≡ agreeWith (now (text .entry)) (now (work .entry)) x z (getD (declarationsIn (now (text .entry)) (now (work .entry)) c .methods) i noDeclaration) ⌝ }
-{
-    if read_lookups::same_name(
-        text,
-        read_lookups::type_of(work, x),
-        read_lookups::result_type(work, c, i),
-    ) {
-        return read_lookups::same_name(
-            text,
-            read_lookups::type_of(work, z),
-            read_lookups::parameter_type(work, c, i),
-        );
-    }
-    false
-}
-
-// May the method named at m, which has the number i, be called of y, of this class?
-fn judge_call(
-    text: &[u8],
-    work: &[u8],
-    c: Names,
-    x: usize,
-    y: usize,
-    z: usize,
-    class: Span,
-    m: Span,
-    i: usize,
-) -> Verdict
-    requires { ⌜ AreaFits (now work) c × (x ≤ frame-variables) × (z ≤ frame-variables) ⌝ }
-    ensures { λ r. ⌜ r ≡ mayCall (now (text .entry)) (now (work .entry)) c x y z class m i ⌝ }
-{
-    if !are_known(x, y, z) {
-        return Verdict::Bad(Fault::Undeclared);
-    }
-    let v = judge_method(text, class, m, i, c.methods);
-    if let Verdict::Bad(f) = v {
-        return Verdict::Bad(f);
-    }
-    if !call_agrees(text, work, c, x, z, i) {
-        return Verdict::Bad(Fault::WrongType);
-    }
-    judge_target(x, y, z)
-}
-
-// `call x y m z`
-fn call_row(text: &[u8], work: &[u8], c: Names, r: usize, line: usize) -> TriedRow
-    requires { ⌜ AreaFits (now work) c × (r ≤ length (now text)) ⌝ }
-    ensures { λ o. ⌜ TriedAfter (now (text .entry)) (now (work .entry)) c r callJudged callRow line o ⌝ }
-{
-    let a = read_declarations::span_after(text, r);
-    let b = read_declarations::span_after(text, a.start + a.len);
-    let d = read_declarations::span_after(text, b.start + b.len);
-    let e = read_declarations::span_after(text, d.start + d.len);
-    let x = variable_at(text, work, c, a);
-    let y = variable_at(text, work, c, b);
-    let z = variable_at(text, work, c, e);
-    let class = read_lookups::type_of(work, y);
-    let m = read_lookups::method_number(text, work, c, class, read_names::name_in(text, d));
-    let v = judge_call(text, work, c, x, y, z, class, d, m);
-    row_if(v, row(Kind::CALL, x, y, z, m, line))
-}
-
 // `return x`
 fn return_row(text: &[u8], work: &[u8], c: Names, r: usize, line: usize) -> TriedRow
     requires { ⌜ AreaFits (now work) c × (r ≤ length (now text)) ⌝ }
@@ -263,7 +160,7 @@ fn judge_compute(text: &[u8], work: &[u8], x: usize, y: usize, z: usize) -> Verd
     requires { ⌜ (length (now work) ≡ work-bytes) × (x ≤ frame-variables) × (y ≤ frame-variables) × (z ≤ frame-variables) ⌝ }
     ensures { λ r. ⌜ r ≡ mayCompute (now (text .entry)) (now (work .entry)) x y z ⌝ }
 {
-    if !are_known(x, y, z) {
+    if !calls::are_known(x, y, z) {
         return Verdict::Bad(Fault::Undeclared);
     }
     if !read_lookups::is_int(text, read_lookups::type_of(work, x)) {
@@ -301,7 +198,7 @@ pub fn plain_row(text: &[u8], work: &[u8], c: Names, kind: u8, r: usize, line: u
     match kind {
         Kind::SET => set_row(text, work, c, r, line),
         Kind::NEW => new_row(text, work, c, r, line),
-        Kind::CALL => call_row(text, work, c, r, line),
+        Kind::CALL => calls::call_row(text, work, c, r, line),
         Kind::RETURN => return_row(text, work, c, r, line),
         Kind::ADD => compute_row(text, work, c, Kind::ADD, r, line),
         Kind::SUB => compute_row(text, work, c, Kind::SUB, r, line),

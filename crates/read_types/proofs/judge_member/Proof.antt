@@ -1,5 +1,5 @@
 -- `read_types::judge_member` meets its contract. Assumes nothing.
-use mathlib.Core.Path.{sym, ap, _∙_}
+use mathlib.Core.Path.{sym, _∙_}
 use borrow.Author.Tests.{lt-ltb, le-ltb}
 use Rattle.read_types.specs.Verdicts.{test}
 use Rattle.read_types.specs.Types.{mayName}

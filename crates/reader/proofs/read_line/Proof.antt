@@ -1,5 +1,5 @@
 -- `reader::read_line` meets its contract. Assumes nothing.
-use mathlib.Core.Path.{refl, sym, _∙_}
+use mathlib.Core.Path.{refl}
 use Rattle.read_grammar.proofs.Rows.{number-of-kind}
 use Rattle.resolve_headers.proofs.Lines.{stands-held}
 use Rattle.reader.specs.Readings.{StepIs}

@@ -13,7 +13,7 @@ is-declaration-requires c κs = search needs
 put-declaration-requires : tie.Need-put-declaration-requires
 put-declaration-requires c κs =
     let x = c .before .before .before .before .before .pre in
-    (x .0 .ready, x .0 .high, x .0 .formed, x .0 .room, sym (c .before .before .is-declaration .ensures) ∙ c .before .if1 .taken)
+    (x .0 .ready, x .0 .high, (x .0 .formed, sym (c .before .before .is-declaration .ensures) ∙ c .before .if1 .taken), x .0 .room)
 
 same-length : tie.Need-same-length
 same-length c = search needs
@@ -97,7 +97,9 @@ returns-7 : tie.Need-returns-7
 returns-7 c =
     let x = c .before .before .before .before .before .before .before .before .before .before .before .pre in
     let o = c .before .before .before .before .match .rest in
-    let e = var-left _ (x .1 .0) (leb-false first-statement _ (sym (c .before .before .before .before .before .before .is-statement .ensures) ∙ c .before .before .before .before .before .if2 .left)) (o .0 .0 .0 .1) (o .0 .0 .1) (o .0 .1) (o .1) (sym (c .before .before .before .before .before .before .before .before .is-declaration .ensures) ∙ c .before .before .before .before .before .before .before .if1 .left) in
+    let e = var-left _ (x .1 .0) (leb-false first-statement _ (sym (c .before .before .before .before .before .before .is-statement .ensures) ∙ c .before .before .before .before .before .if2 .left))
+    (o .0 .0 .0 .1) (o .0 .0 .1) (o .0 .1) (o .1) (sym (c .before .before .before .before .before .before .before .before .is-declaration .ensures)
+    ∙ c .before .before .before .before .before .before .before .if1 .left) in
     rw e (c .before .before .put-var .ensures)
 
 pub try-line-spec : {M : Type 1} → statement M

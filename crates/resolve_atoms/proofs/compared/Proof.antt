@@ -30,11 +30,16 @@ agree-requires c κs = search needs
 
 returns-2 : tie.Need-returns-2
 returns-2 c =
-    apart-bad _ _ _ (c .before .before .before .before .before .before .before .before .before .before .before .pre .0 .fits) _ _ _ _ _ (c .before .before .before .before .before .before .look .ensures) (c .before .before .before .before .before .look2 .ensures) (c .before .before .before .before .lower .ensures) (c .before .before .enum-told .given .1) (sym (c .before .agree .ensures) ∙ not-true _ (c .if1 .taken))
+    apart-bad _ _ _ (c .before .before .before .before .before .before .before .before .before .before .before .pre .0 .fits) _ _ _ _ _ (c .before .before .before .before .before .before .look .ensures)
+    (c .before .before .before .before .before .look2 .ensures) (c .before .before .before .before .lower .ensures) (c .before .before .enum-told .given .1) (sym (c .before .agree .ensures)
+    ∙ not-true _ (c .if1 .taken))
 
 returns-3 : tie.Need-returns-3
 returns-3 c =
-    compared-row _ _ _ (c .before .before .before .before .before .before .before .before .before .before .before .pre .0 .fits) _ _ _ _ _ (c .before .before .before .before .before .before .look .ensures) (c .before .before .before .before .before .look2 .ensures) (c .before .before .before .before .lower .ensures) (c .before .before .enum-told .given .1) (c .before .before .before .before .before .before .before .before .before .before .before .pre .1) (sym (c .before .agree .ensures) ∙ not-false _ (c .if1 .left))
+    compared-row _ _ _ (c .before .before .before .before .before .before .before .before .before .before .before .pre .0 .fits) _ _ _ _ _
+    (c .before .before .before .before .before .before .look .ensures) (c .before .before .before .before .before .look2 .ensures) (c .before .before .before .before .lower .ensures)
+    (c .before .before .enum-told .given .1) (c .before .before .before .before .before .before .before .before .before .before .before .pre .1) (sym (c .before .agree .ensures)
+    ∙ not-false _ (c .if1 .left))
 
 pub compared-spec : {M : Type 1} → statement M
 compared-spec =

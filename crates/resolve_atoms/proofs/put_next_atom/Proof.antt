@@ -138,7 +138,9 @@ returns c =
     let kind = c .before .before .before .before .before .before .before .before .before .before .before .begun-by .ensures ∙ ap begunBy (c .before .before .before .before .before .before .before .before .before .before .before .before .byte-at .ensures) in
     let word = word-ends follows _ kind _ (c .before .before .before .before .before .before .before .before .before .before .row-of .ensures) in
     let tried =
-    kind-tried word (c .before .before .before .before .before .before .before .before .next-field .ensures) (c .before .before .before .before .before .before .before .next-field2 .ensures) (follows .byte) _ (follows .form) _ (word-cut follows _ kind _ (c .before .before .before .before .before .before .before .before .before .before .row-of .ensures)) _ _ _ (c .before .before .before .resolve-atom .ensures) in
+    kind-tried word (c .before .before .before .before .before .before .before .before .next-field .ensures) (c .before .before .before .before .before .before .before .next-field2 .ensures)
+    (follows .byte) _ (follows .form) _ (word-cut follows _ kind _ (c .before .before .before .before .before .before .before .before .before .before .row-of .ensures)) _ _ _
+    (c .before .before .before .resolve-atom .ensures) in
     next-bad word (c .before .before .before .before .before .before .before .before .next-field .ensures) (c .before .before .before .before .before .before .before .next-field2 .ensures) (follows .byte) _ (follows .form) _ _ _ _ _ tried (c .before .t .given .1)
 
 same-length-2 : tie.Need-same-length-2
@@ -152,8 +154,14 @@ returns-2 c =
     let kind = c .before .before .before .before .before .before .before .before .before .before .before .before .before .before .before .begun-by .ensures ∙ ap begunBy (c .before .before .before .before .before .before .before .before .before .before .before .before .before .before .before .before .byte-at .ensures) in
     let word = word-ends follows _ kind _ (c .before .before .before .before .before .before .before .before .before .before .before .before .before .before .row-of .ensures) in
     let tried =
-    kind-tried word (c .before .before .before .before .before .before .before .before .before .before .before .before .next-field .ensures) (c .before .before .before .before .before .before .before .before .before .before .before .next-field2 .ensures) (follows .byte) _ (follows .form) _ (word-cut follows _ kind _ (c .before .before .before .before .before .before .before .before .before .before .before .before .before .before .row-of .ensures)) _ _ _ (c .before .before .before .before .before .before .before .resolve-atom .ensures) in
-    next-put word (c .before .before .before .before .before .before .before .before .before .before .before .before .next-field .ensures) (c .before .before .before .before .before .before .before .before .before .before .before .next-field2 .ensures) (follows .byte) _ (follows .form) _ _ (start .pre .0) _ _ _ _ (start .pre .2) tried (c .before .before .before .before .before .t2 .given .1) (c .before .before .put-atom .ensures)
+    kind-tried word (c .before .before .before .before .before .before .before .before .before .before .before .before .next-field .ensures)
+    (c .before .before .before .before .before .before .before .before .before .before .before .next-field2 .ensures)
+    (follows .byte) _ (follows .form) _ (word-cut follows _ kind _
+    (c .before .before .before .before .before .before .before .before .before .before .before .before .before .before .row-of .ensures)) _ _ _
+    (c .before .before .before .before .before .before .before .resolve-atom .ensures) in
+    next-put word (c .before .before .before .before .before .before .before .before .before .before .before .before .next-field .ensures)
+    (c .before .before .before .before .before .before .before .before .before .before .before .next-field2 .ensures)
+    (follows .byte) _ (follows .form) _ _ (start .pre .0) _ _ _ _ (start .pre .2) tried (c .before .before .before .before .before .t2 .given .1) (c .before .before .put-atom .ensures)
 
 pub put-next-atom-spec : {M : Type 1} → statement M
 put-next-atom-spec =

@@ -21,7 +21,7 @@ put-class-requires c κs =
     let v = c .before .before .before .before .args in
     let t = v .text .now in
     let e = c .before .match .keys1 in
-    (p .0, p .1, subst (FormedAfter t (v .r)) (ap kindNumbered e ∙ kind-of-number Class) (p .2), subst (λ k. LineRoom t (v .work .now) (v .p) (lineAfter t (v .r) k)) e (p .3))
+    (p .0, p .1, subst (FormedAfter t (v .r)) (ap kindNumbered e ∙ kind-of-number Class) (p .2 .0), subst (λ k. LineRoom t (v .work .now) (v .p) (lineAfter t (v .r) k)) e (p .3))
 
 put-main-requires : tie.Need-put-main-requires
 put-main-requires c κs = search needs
@@ -39,8 +39,8 @@ returns-2 c =
     let p = c .before .before .before .before .pre in
     let v = c .before .before .before .before .args in
     let t = v .text .now in
-    let e = last-kind (v .kind) (p .4) (c .before .match .rest .1) in
-    let formed = subst (FormedAfter t (v .r)) (ap kindNumbered e ∙ kind-of-number Main) (p .2) in
+    let e = last-kind (v .kind) (p .2 .1) (c .before .match .rest .1) in
+    let formed = subst (FormedAfter t (v .r)) (ap kindNumbered e ∙ kind-of-number Main) (p .2 .0) in
     put-on t (v .work .now) (v .p) (v .r) Main e true (main-test t (v .work .now) (v .p) (more (drop (v .r) t)) true formed refl) refl
     (at-end refl (c .put-main .ensures) (main-line t (v .work .now) (v .p) (more (drop (v .r) t))))
 

@@ -1,7 +1,7 @@
--- `write_plain::are_known` meets its contract. Assumes nothing.
+-- `write_plain::calls::are_known` meets its contract. Assumes nothing.
 use borrow.Author.Tests.{le-ltb, lt-ltb}
-use Rattle.write_plain.proofs.are_known.Statement.{statement}
-use Rattle.write_plain.proofs.are_known.Tie as tie
+use Rattle.write_plain.proofs.calls.are_known.Statement.{statement}
+use Rattle.write_plain.proofs.calls.are_known.Tie as tie
 
 returns : tie.Need-returns
 returns c =

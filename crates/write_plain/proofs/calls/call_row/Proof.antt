@@ -1,8 +1,8 @@
--- `write_plain::call_row` meets its contract. Assumes nothing.
+-- `write_plain::calls::call_row` meets its contract. Assumes nothing.
 use Rattle.write_plain.proofs.Tries.{call-tried}
 use borrow.Author.Needs.{needs}
-use Rattle.write_plain.proofs.call_row.Statement.{statement}
-use Rattle.write_plain.proofs.call_row.Tie as tie
+use Rattle.write_plain.proofs.calls.call_row.Statement.{statement}
+use Rattle.write_plain.proofs.calls.call_row.Tie as tie
 
 span-after-requires : tie.Need-span-after-requires
 span-after-requires c κs = search needs
@@ -58,8 +58,13 @@ row-if-requires c κs = search needs
 returns : tie.Need-returns
 returns c =
     let v = c .before .before .before .before .before .before .before .before .before .before .before .before .before .before .before .before .before .before .args in
-    call-tried (v .text .now) (v .work .now) (v .c) (v .r) (v .line) (c .row-if .result) (c .before .before .before .before .before .before .before .before .before .before .before .before .before .before .before .span-after .ensures) (c .before .before .before .before .before .before .before .before .before .before .before .before .before .span-after2 .ensures) (c .before .before .before .before .before .before .before .before .before .before .before .span-after3 .ensures)
-    (c .before .before .before .before .before .before .before .before .before .span-after4 .ensures) (c .before .before .before .before .before .before .before .before .variable-at .ensures) (c .before .before .before .before .before .before .before .variable-at2 .ensures) (c .before .before .before .before .before .before .variable-at3 .ensures) (c .before .before .before .before .before .type-of .ensures) (c .before .before .before .before .name-in .ensures)
+    call-tried (v .text .now) (v .work .now) (v .c) (v .r) (v .line) (c .row-if .result)
+    (c .before .before .before .before .before .before .before .before .before .before .before .before .before .before .before .span-after .ensures)
+    (c .before .before .before .before .before .before .before .before .before .before .before .before .before .span-after2 .ensures)
+    (c .before .before .before .before .before .before .before .before .before .before .before .span-after3 .ensures)
+    (c .before .before .before .before .before .before .before .before .before .span-after4 .ensures) (c .before .before .before .before .before .before .before .before .variable-at .ensures)
+    (c .before .before .before .before .before .before .before .variable-at2 .ensures) (c .before .before .before .before .before .before .variable-at3 .ensures)
+    (c .before .before .before .before .before .type-of .ensures) (c .before .before .before .before .name-in .ensures)
     (c .before .before .before .method-number .ensures .0) (c .before .before .judge-call .ensures) (c .before .row .ensures) (c .row-if .ensures)
 
 pub call-row-spec : {M : Type 1} → statement M

@@ -1,10 +1,10 @@
--- `write_plain::judge_method` meets its contract. Assumes nothing.
+-- `write_plain::calls::judge_method` meets its contract. Assumes nothing.
 use mathlib.Core.Path.{sym, ap, _∙_}
 use Rattle.rules.specs.Text.{reserved}
 use Rattle.read_types.specs.Verdicts.{test}
 use borrow.Author.Needs.{needs}
-use Rattle.write_plain.proofs.judge_method.Statement.{statement}
-use Rattle.write_plain.proofs.judge_method.Tie as tie
+use Rattle.write_plain.proofs.calls.judge_method.Statement.{statement}
+use Rattle.write_plain.proofs.calls.judge_method.Tie as tie
 
 name-in-requires : tie.Need-name-in-requires
 name-in-requires c κs = search needs

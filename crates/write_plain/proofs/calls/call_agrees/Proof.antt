@@ -1,8 +1,8 @@
--- `write_plain::call_agrees` meets its contract. Assumes nothing.
+-- `write_plain::calls::call_agrees` meets its contract. Assumes nothing.
 use mathlib.Core.Path.{sym, _∙_}
 use borrow.Author.Needs.{needs}
-use Rattle.write_plain.proofs.call_agrees.Statement.{statement}
-use Rattle.write_plain.proofs.call_agrees.Tie as tie
+use Rattle.write_plain.proofs.calls.call_agrees.Statement.{statement}
+use Rattle.write_plain.proofs.calls.call_agrees.Tie as tie
 
 type-of-requires : tie.Need-type-of-requires
 type-of-requires c κs = search needs

@@ -1,10 +1,10 @@
--- `write_plain::judge_target` meets its contract. Assumes nothing.
+-- `write_plain::calls::judge_target` meets its contract. Assumes nothing.
 use mathlib.Core.Path.{sym, _∙_}
 use borrow.Author.Tests.{not-true, not-false, eq-eqb, ne-eqb}
 use Rattle.read_types.specs.Verdicts.{test}
 use borrow.Author.Needs.{needs}
-use Rattle.write_plain.proofs.judge_target.Statement.{statement}
-use Rattle.write_plain.proofs.judge_target.Tie as tie
+use Rattle.write_plain.proofs.calls.judge_target.Statement.{statement}
+use Rattle.write_plain.proofs.calls.judge_target.Tie as tie
 
 is-local-requires : tie.Need-is-local-requires
 is-local-requires c κs = search needs

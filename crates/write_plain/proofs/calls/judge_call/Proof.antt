@@ -1,10 +1,10 @@
--- `write_plain::judge_call` meets its contract. Assumes nothing.
+-- `write_plain::calls::judge_call` meets its contract. Assumes nothing.
 use mathlib.Core.Path.{sym, _∙_}
 use borrow.Author.Tests.{not-true, not-false}
 use Rattle.read_types.specs.Verdicts.{test, andThen}
 use borrow.Author.Needs.{needs}
-use Rattle.write_plain.proofs.judge_call.Statement.{statement}
-use Rattle.write_plain.proofs.judge_call.Tie as tie
+use Rattle.write_plain.proofs.calls.judge_call.Statement.{statement}
+use Rattle.write_plain.proofs.calls.judge_call.Tie as tie
 
 are-known-requires : tie.Need-are-known-requires
 are-known-requires c κs = search needs
@@ -42,7 +42,9 @@ judge-target-requires c κs = search needs
 returns-4 : tie.Need-returns-4
 unfolding test andThen
 returns-4 c =
-    rw (sym (c .before .before .before .before .before .before .before .are-known .ensures) ∙ not-false _ (c .before .before .before .before .before .before .if1 .left), sym (c .before .before .before .before .before .judge-method .ensures) ∙ c .before .before .before .enum-told .given .1, sym (c .before .before .call-agrees .ensures) ∙ not-false _ (c .before .if2 .left)) (c .judge-target .ensures)
+    rw (sym (c .before .before .before .before .before .before .before .are-known .ensures) ∙ not-false _ (c .before .before .before .before .before .before .if1 .left),
+    sym (c .before .before .before .before .before .judge-method .ensures) ∙ c .before .before .before .enum-told .given .1, sym (c .before .before .call-agrees .ensures)
+    ∙ not-false _ (c .before .if2 .left)) (c .judge-target .ensures)
 
 pub judge-call-spec : {M : Type 1} → statement M
 judge-call-spec =
