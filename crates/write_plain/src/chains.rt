@@ -66,10 +66,7 @@ pub fn open_row(text: &[u8], work: &[u8], c: Names, r: usize, line: usize) -> Tr
     let y = crate::variable_at(text, work, c, a);
     let x = chain_at(text, work, c, b, d);
     let v = judge_open(text, work, x, y);
-    crate::row_if(
-        v,
-        crate::row(Kind::OPEN, y, x.variable, 0, x.number, line),
-    )
+    crate::row_if(v, crate::row(Kind::OPEN, y, x.variable, 0, x.number, line))
 }
 
 // `shut x f`
@@ -81,8 +78,5 @@ pub fn shut_row(text: &[u8], work: &[u8], c: Names, r: usize, line: usize) -> Tr
     let b = read_declarations::span_after(text, a.start + a.len);
     let x = chain_at(text, work, c, a, b);
     let v = x.verdict;
-    crate::row_if(
-        v,
-        crate::row(Kind::SHUT, x.variable, 0, 0, x.number, line),
-    )
+    crate::row_if(v, crate::row(Kind::SHUT, x.variable, 0, 0, x.number, line))
 }

@@ -24,10 +24,13 @@ byte-at-requires c κs =
 
 put-next-atom-requires : tie.Need-put-next-atom-requires Inv-loop μ-loop
 put-next-atom-requires c κs =
-    let tab = sym (c .before .before .byte-at .ensures) ∙ c .before .if1 .taken in
-    (still-ready (c .before .before .before .loop .inv) (c .before .before .before .before .before .before .pre .0), writing-follows (c .before .before .before .loop .inv)
-    (c .before .before .before .before .before .before .pre .0) tab, writing-room (c .before .before .before .loop .inv)
-    (c .before .before .before .before .before .before .pre .0) tab (c .before .before .before .before .before .before .pre .1 .room))
+    let tab = sym (c .before .before .byte-at .ensures) ∙ c .before .if1 .taken in (
+      still-ready (c .before .before .before .loop .inv) (c .before .before .before .before .before .before .pre .0),
+      writing-follows (c .before .before .before .loop .inv)
+          (c .before .before .before .before .before .before .pre .0) tab,
+      writing-room (c .before .before .before .loop .inv)
+          (c .before .before .before .before .before .before .pre .0) tab (c .before .before .before .before .before .before .pre .1 .room),
+    )
 
 lower-requires : tie.Need-lower-requires Inv-loop μ-loop
 lower-requires c κs =
@@ -35,9 +38,12 @@ lower-requires c κs =
 
 add-n : tie.Need-add-n Inv-loop μ-loop
 add-n c =
-    omega (arith, writing-room (c .before .before .before .before .before .before .before .loop .inv) (c .before .before .before .before .before .before .before .before .before .before .pre .0)
-    (sym (c .before .before .before .before .before .before .byte-at .ensures) ∙ c .before .before .before .before .before .if1 .taken)
-    (c .before .before .before .before .before .before .before .before .before .before .pre .1 .room))
+    omega (
+      arith,
+      writing-room (c .before .before .before .before .before .before .before .loop .inv) (c .before .before .before .before .before .before .before .before .before .before .pre .0)
+          (sym (c .before .before .before .before .before .before .byte-at .ensures) ∙ c .before .before .before .before .before .if1 .taken)
+          (c .before .before .before .before .before .before .before .before .before .before .pre .1 .room),
+    )
 
 loop-less : tie.Need-loop-less Inv-loop μ-loop
 loop-less c =

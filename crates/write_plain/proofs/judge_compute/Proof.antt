@@ -38,11 +38,13 @@ is-int-requires-2 c κs = search needs
 returns-3 : tie.Need-returns-3
 unfolding test
 returns-3 c =
-    rw (sym (c .before .before .before .before .before .before .before .are-known .ensures) ∙ not-false _ (c .before .before .before .before .before .before .if1 .left),
-    ap (λ s. is "int" (nameIn (c .before .before .before .before .before .before .before .before .before .before .args .text .now) s))
-    (sym (c .before .before .before .before .before .type-of .ensures)) ∙ (sym (c .before .before .before .before .is-int .ensures) ∙ not-false _ (c .before .before .before .if2 .left)),
-    ap (λ s. is "int" (nameIn (c .before .before .before .before .before .before .before .before .before .before .args .text .now) s)) (sym (c .before .before .type-of2 .ensures))
-    ∙ (sym (c .before .is-int2 .ensures) ∙ not-true _ (c .if3 .taken)))
+    rw (
+      sym (c .before .before .before .before .before .before .before .are-known .ensures) ∙ not-false _ (c .before .before .before .before .before .before .if1 .left),
+      ap (λ s. is "int" (nameIn (c .before .before .before .before .before .before .before .before .before .before .args .text .now) s))
+          (sym (c .before .before .before .before .before .type-of .ensures)) ∙ (sym (c .before .before .before .before .is-int .ensures) ∙ not-false _ (c .before .before .before .if2 .left)),
+      ap (λ s. is "int" (nameIn (c .before .before .before .before .before .before .before .before .before .before .args .text .now) s)) (sym (c .before .before .type-of2 .ensures))
+          ∙ (sym (c .before .is-int2 .ensures) ∙ not-true _ (c .if3 .taken)),
+    )
 
 type-of-requires-3 : tie.Need-type-of-requires-3
 type-of-requires-3 c κs = search needs
@@ -53,15 +55,17 @@ is-int-requires-3 c κs = search needs
 returns-4 : tie.Need-returns-4
 unfolding test
 returns-4 c =
-    rw (sym (c .before .before .before .before .before .before .before .before .before .before .are-known .ensures)
-    ∙ not-false _ (c .before .before .before .before .before .before .before .before .before .if1 .left),
-    ap (λ s. is "int" (nameIn (c .before .before .before .before .before .before .before .before .before .before .before .before .before .args .text .now) s))
-    (sym (c .before .before .before .before .before .before .before .before .type-of .ensures)) ∙ (sym (c .before .before .before .before .before .before .before .is-int .ensures)
-    ∙ not-false _ (c .before .before .before .before .before .before .if2 .left)),
-    ap (λ s. is "int" (nameIn (c .before .before .before .before .before .before .before .before .before .before .before .before .before .args .text .now) s))
-    (sym (c .before .before .before .before .before .type-of2 .ensures)) ∙ (sym (c .before .before .before .before .is-int2 .ensures) ∙ not-false _ (c .before .before .before .if3 .left)),
-    ap (λ s. is "int" (nameIn (c .before .before .before .before .before .before .before .before .before .before .before .before .before .args .text .now) s))
-    (sym (c .before .before .type-of3 .ensures)) ∙ (sym (c .before .is-int3 .ensures) ∙ not-true _ (c .if4 .taken)))
+    rw (
+      sym (c .before .before .before .before .before .before .before .before .before .before .are-known .ensures)
+          ∙ not-false _ (c .before .before .before .before .before .before .before .before .before .if1 .left),
+      ap (λ s. is "int" (nameIn (c .before .before .before .before .before .before .before .before .before .before .before .before .before .args .text .now) s))
+          (sym (c .before .before .before .before .before .before .before .before .type-of .ensures)) ∙ (sym (c .before .before .before .before .before .before .before .is-int .ensures)
+          ∙ not-false _ (c .before .before .before .before .before .before .if2 .left)),
+      ap (λ s. is "int" (nameIn (c .before .before .before .before .before .before .before .before .before .before .before .before .before .args .text .now) s))
+          (sym (c .before .before .before .before .before .type-of2 .ensures)) ∙ (sym (c .before .before .before .before .is-int2 .ensures) ∙ not-false _ (c .before .before .before .if3 .left)),
+      ap (λ s. is "int" (nameIn (c .before .before .before .before .before .before .before .before .before .before .before .before .before .args .text .now) s))
+          (sym (c .before .before .type-of3 .ensures)) ∙ (sym (c .before .is-int3 .ensures) ∙ not-true _ (c .if4 .taken)),
+    )
 
 is-local-requires : tie.Need-is-local-requires
 is-local-requires c κs = search needs
@@ -72,16 +76,18 @@ test-requires c κs = search needs
 returns-5 : tie.Need-returns-5
 unfolding test
 returns-5 c =
-    rw (sym (c .before .before .before .before .before .before .before .before .before .before .before .before .are-known .ensures)
-    ∙ not-false _ (c .before .before .before .before .before .before .before .before .before .before .before .if1 .left),
-    ap (λ s. is "int" (nameIn (c .before .before .before .before .before .before .before .before .before .before .before .before .before .before .before .args .text .now) s))
-    (sym (c .before .before .before .before .before .before .before .before .before .before .type-of .ensures))
-    ∙ (sym (c .before .before .before .before .before .before .before .before .before .is-int .ensures) ∙ not-false _ (c .before .before .before .before .before .before .before .before .if2 .left)),
-    ap (λ s. is "int" (nameIn (c .before .before .before .before .before .before .before .before .before .before .before .before .before .before .before .args .text .now) s))
-    (sym (c .before .before .before .before .before .before .before .type-of2 .ensures)) ∙ (sym (c .before .before .before .before .before .before .is-int2 .ensures)
-    ∙ not-false _ (c .before .before .before .before .before .if3 .left)),
-    ap (λ s. is "int" (nameIn (c .before .before .before .before .before .before .before .before .before .before .before .before .before .before .before .args .text .now) s))
-    (sym (c .before .before .before .before .type-of3 .ensures)) ∙ (sym (c .before .before .before .is-int3 .ensures) ∙ not-false _ (c .before .before .if4 .left))) (c .test .ensures
+    rw (
+      sym (c .before .before .before .before .before .before .before .before .before .before .before .before .are-known .ensures)
+          ∙ not-false _ (c .before .before .before .before .before .before .before .before .before .before .before .if1 .left),
+      ap (λ s. is "int" (nameIn (c .before .before .before .before .before .before .before .before .before .before .before .before .before .before .before .args .text .now) s))
+          (sym (c .before .before .before .before .before .before .before .before .before .before .type-of .ensures))
+          ∙ (sym (c .before .before .before .before .before .before .before .before .before .is-int .ensures) ∙ not-false _ (c .before .before .before .before .before .before .before .before .if2 .left)),
+      ap (λ s. is "int" (nameIn (c .before .before .before .before .before .before .before .before .before .before .before .before .before .before .before .args .text .now) s))
+          (sym (c .before .before .before .before .before .before .before .type-of2 .ensures)) ∙ (sym (c .before .before .before .before .before .before .is-int2 .ensures)
+          ∙ not-false _ (c .before .before .before .before .before .if3 .left)),
+      ap (λ s. is "int" (nameIn (c .before .before .before .before .before .before .before .before .before .before .before .before .before .before .before .args .text .now) s))
+          (sym (c .before .before .before .before .type-of3 .ensures)) ∙ (sym (c .before .before .before .is-int3 .ensures) ∙ not-false _ (c .before .before .if4 .left)),
+    ) (c .test .ensures
     ∙ ap (λ b. test b Fault.WrongTarget Verdict.Good) (c .before .is-local .ensures))
 
 pub judge-compute-spec : {M : Type 1} → statement M

@@ -39,9 +39,14 @@ same-name-requires c κs = search needs
 returns-4 : tie.Need-returns-4
 unfolding test
 returns-4 c =
-    rw (lt-ltb _ _ (c .before .before .before .before .before .before .before .before .if1 .left), ap reserved (sym (c .before .before .before .before .before .before .before .name-in .ensures))
-    ∙ (sym (c .before .before .before .before .before .before .is-reserved .ensures) ∙ c .before .before .before .before .before .if2 .left), lt-ltb _ _ (c .before .before .before .if3 .left),
-    ← c .before .before .type-of .ensures, sym (c .before .same-name .ensures) ∙ not-true _ (c .if4 .taken))
+    rw (
+      lt-ltb _ _ (c .before .before .before .before .before .before .before .before .if1 .left),
+      ap reserved (sym (c .before .before .before .before .before .before .before .name-in .ensures))
+          ∙ (sym (c .before .before .before .before .before .before .is-reserved .ensures) ∙ c .before .before .before .before .before .if2 .left),
+      lt-ltb _ _ (c .before .before .before .if3 .left),
+      ← c .before .before .type-of .ensures,
+      sym (c .before .same-name .ensures) ∙ not-true _ (c .if4 .taken),
+    )
 
 is-local-requires : tie.Need-is-local-requires
 is-local-requires c κs = search needs
@@ -52,11 +57,15 @@ test-requires c κs = search needs
 returns-5 : tie.Need-returns-5
 unfolding test
 returns-5 c =
-    rw (lt-ltb _ _ (c .before .before .before .before .before .before .before .before .before .before .if1 .left),
-    ap reserved (sym (c .before .before .before .before .before .before .before .before .before .name-in .ensures))
-    ∙ (sym (c .before .before .before .before .before .before .before .before .is-reserved .ensures) ∙ c .before .before .before .before .before .before .before .if2 .left),
-    lt-ltb _ _ (c .before .before .before .before .before .if3 .left), ← c .before .before .before .before .type-of .ensures, sym (c .before .before .before .same-name .ensures)
-    ∙ not-false _ (c .before .before .if4 .left)) (c .test .ensures ∙ ap (λ b. test b Fault.WrongTarget Verdict.Good) (c .before .is-local .ensures))
+    rw (
+      lt-ltb _ _ (c .before .before .before .before .before .before .before .before .before .before .if1 .left),
+      ap reserved (sym (c .before .before .before .before .before .before .before .before .before .name-in .ensures))
+          ∙ (sym (c .before .before .before .before .before .before .before .before .is-reserved .ensures) ∙ c .before .before .before .before .before .before .before .if2 .left),
+      lt-ltb _ _ (c .before .before .before .before .before .if3 .left),
+      ← c .before .before .before .before .type-of .ensures,
+      sym (c .before .before .before .same-name .ensures)
+          ∙ not-false _ (c .before .before .if4 .left),
+    ) (c .test .ensures ∙ ap (λ b. test b Fault.WrongTarget Verdict.Good) (c .before .is-local .ensures))
 
 pub judge-new-spec : {M : Type 1} → statement M
 judge-new-spec =

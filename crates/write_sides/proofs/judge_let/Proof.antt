@@ -45,8 +45,12 @@ test-requires c κs = search needs
 returns-4 : tie.Need-returns-4
 unfolding test andThen typeMeant
 returns-4 c =
-    rw (lt-ltb _ _ (c .before .before .before .before .before .before .before .if1 .left), c .before .before .before .before .before .enum-told .given .1,
-    ← c .before .before .before .before .type-of .ensures, sym (c .before .before .before .agree .ensures) ∙ not-false _ (c .before .before .if2 .left)) (c .test .ensures
+    rw (
+      lt-ltb _ _ (c .before .before .before .before .before .before .before .if1 .left),
+      c .before .before .before .before .before .enum-told .given .1,
+      ← c .before .before .before .before .type-of .ensures,
+      sym (c .before .before .before .agree .ensures) ∙ not-false _ (c .before .before .if2 .left),
+    ) (c .test .ensures
     ∙ ap (λ b. test b Fault.WrongTarget Verdict.Good) (c .before .is-local .ensures))
 
 pub judge-let-spec : {M : Type 1} → statement M

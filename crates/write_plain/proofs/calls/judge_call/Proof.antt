@@ -42,9 +42,12 @@ judge-target-requires c κs = search needs
 returns-4 : tie.Need-returns-4
 unfolding test andThen
 returns-4 c =
-    rw (sym (c .before .before .before .before .before .before .before .are-known .ensures) ∙ not-false _ (c .before .before .before .before .before .before .if1 .left),
-    sym (c .before .before .before .before .before .judge-method .ensures) ∙ c .before .before .before .enum-told .given .1, sym (c .before .before .call-agrees .ensures)
-    ∙ not-false _ (c .before .if2 .left)) (c .judge-target .ensures)
+    rw (
+      sym (c .before .before .before .before .before .before .before .are-known .ensures) ∙ not-false _ (c .before .before .before .before .before .before .if1 .left),
+      sym (c .before .before .before .before .before .judge-method .ensures) ∙ c .before .before .before .enum-told .given .1,
+      sym (c .before .before .call-agrees .ensures)
+          ∙ not-false _ (c .before .if2 .left),
+    ) (c .judge-target .ensures)
 
 pub judge-call-spec : {M : Type 1} → statement M
 judge-call-spec =

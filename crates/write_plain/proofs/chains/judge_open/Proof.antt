@@ -42,9 +42,15 @@ is-local-requires c κs = search needs
 returns-4 : tie.Need-returns-4
 unfolding test andThen
 returns-4 c =
-    rw (lt-ltb _ _ (c .before .before .before .before .before .before .before .before .if1 .left), c .before .before .before .before .before .before .enum-told .given .1,
-    ← c .before .before .before .before .before .type-of .ensures, ← c .before .before .before .before .type-of2 .ensures, sym (c .before .before .before .same-name .ensures)
-    ∙ not-false _ (c .before .before .if2 .left), sym (c .before .is-local .ensures) ∙ not-true _ (c .if3 .taken))
+    rw (
+      lt-ltb _ _ (c .before .before .before .before .before .before .before .before .if1 .left),
+      c .before .before .before .before .before .before .enum-told .given .1,
+      ← c .before .before .before .before .before .type-of .ensures,
+      ← c .before .before .before .before .type-of2 .ensures,
+      sym (c .before .before .before .same-name .ensures)
+          ∙ not-false _ (c .before .before .if2 .left),
+      sym (c .before .is-local .ensures) ∙ not-true _ (c .if3 .taken),
+    )
 
 test-requires : tie.Need-test-requires
 test-requires c κs = search needs
@@ -52,10 +58,15 @@ test-requires c κs = search needs
 returns-5 : tie.Need-returns-5
 unfolding test andThen
 returns-5 c =
-    rw (lt-ltb _ _ (c .before .before .before .before .before .before .before .before .before .before .if1 .left), c .before .before .before .before .before .before .before .before .enum-told .given .1,
-    ← c .before .before .before .before .before .before .before .type-of .ensures, ← c .before .before .before .before .before .before .type-of2 .ensures,
-    sym (c .before .before .before .before .before .same-name .ensures) ∙ not-false _ (c .before .before .before .before .if2 .left), sym (c .before .before .before .is-local .ensures)
-    ∙ not-false _ (c .before .before .if3 .left)) (c .test .ensures)
+    rw (
+      lt-ltb _ _ (c .before .before .before .before .before .before .before .before .before .before .if1 .left),
+      c .before .before .before .before .before .before .before .before .enum-told .given .1,
+      ← c .before .before .before .before .before .before .before .type-of .ensures,
+      ← c .before .before .before .before .before .before .type-of2 .ensures,
+      sym (c .before .before .before .before .before .same-name .ensures) ∙ not-false _ (c .before .before .before .before .if2 .left),
+      sym (c .before .before .before .is-local .ensures)
+          ∙ not-false _ (c .before .before .if3 .left),
+    ) (c .test .ensures)
 
 pub judge-open-spec : {M : Type 1} → statement M
 judge-open-spec =
