@@ -1,4 +1,6 @@
 // The lent areas: whether they have their lengths (number 1), and all their bytes set to 0; the shares of the heap (number 19).
+#![tactic(auto)]
+
 ghost use Rattle.std.specs.Prelude.{◌≡◌, ◌≤◌, length, take};
 ghost use Rattle.rules.specs.Limits.{most_scripts};
 ghost use Rattle.rules.specs.Joint.{fit_together, shares_fit};

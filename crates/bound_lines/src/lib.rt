@@ -1,4 +1,6 @@
 // The first line that leaves no bound: a loop, or a call that can come back to the method that the line is in.
+#![tactic(auto)]
+
 mod queue;
 
 ghost use Rattle.std.specs.Prelude.{◌≡◌, ◌<◌};
@@ -13,7 +15,7 @@ use queue::reach;
 use rules::Machine;
 
 // The methods that were come to: which they are, and in which order.
-#[derive(Drop)]
+#[derive(Clone, Copy)]
 pub struct Reached {
     pub has: [bool; Machine::METHODS],
     pub order: [usize; Machine::METHODS],
@@ -21,20 +23,20 @@ pub struct Reached {
 }
 
 // The block that a line is in.
-#[derive(Drop)]
+#[derive(Clone, Copy)]
 pub enum Owner {
     Main,
     Method(usize),
 }
 
-#[derive(Drop)]
+#[derive(Clone, Copy)]
 pub enum Seen {
     Repeats,
     Ends,
     Goes,
 }
 
-#[derive(Drop)]
+#[derive(Clone, Copy)]
 pub enum Place {
     At(usize),
     Nowhere,

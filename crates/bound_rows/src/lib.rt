@@ -1,4 +1,6 @@
 // What a row of the tables is to a bound: the end of its block, a call, a loop, or one more line.
+#![tactic(auto)]
+
 ghost use Rattle.std.specs.Prelude.{◌≡◌, ◌<◌};
 ghost use Rattle.tables.specs.Decode.{row_count};
 ghost use Rattle.tables.specs.Tables.{Tables};
@@ -6,7 +8,7 @@ ghost use Rattle.bound_rows.specs.Lines.{line_in};
 
 use rules::Kind;
 
-#[derive(Drop)]
+#[derive(Clone, Copy)]
 pub enum Line {
     Plain,
     Call(usize),

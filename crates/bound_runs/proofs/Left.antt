@@ -18,7 +18,7 @@ use Rattle.bound_laws.proofs.Routes.{acyclic-clear}
 use Rattle.bound_laws.proofs.Blocks.{block_goes, bound-positive, bound_some, bound-more, frames-some, frames-more, method-block, bound-law, frames-law}
 use Rattle.bound_laws.proofs.Repeating.{methods-loopless, main-loopless, no-ring}
 use Rattle.bound_runs.proofs.InBlock.{Later, same, pass}
-use Rattle.bound_runs.proofs.Moves.{Nested, Move, goes_on_lem, enters, returns, step-moves}
+use Rattle.bound_runs.proofs.Moves.{Nested, Move, goes_on, enters, returns, step-moves}
 use Rattle.bound_runs.proofs.Full.{FullAt, step-full}
 
 -- BLOCKS
@@ -89,7 +89,7 @@ module _ (P : Program) (none-repeats : first_repeating P ≡ none) (nested : (n 
 
   moved : (n : ℕ) (m m' : Config) → Move P m m' → Within n m → Within (suc n) m'
   unfolding statement_of
-  moved n m m' (goes_on_lem e l N c) W =
+  moved n m m' (goes_on e l N c) W =
       let i : ℕ = m.frame.row in
       let is = block_goes P i e in
       let one : Later P i m'.frame.row = pass e l in

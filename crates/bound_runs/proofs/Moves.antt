@@ -37,7 +37,7 @@ Nested P i = (ws : List Wait) × NestsAt P i ws × NoLoop ws
 
 module _ (P : Program) where
   pub data Move (m m' : Config) : Type 0 where
-    goes_on_lem :
+    goes_on :
         is_end (statement_of P m.frame) ≡ false → Later P (suc m.frame.row) m'.frame.row → Nested P m'.frame.row →
         m'.callers ≡ m.callers → Move m m'
     enters :
@@ -101,14 +101,14 @@ module _ (room : Room) (P : Program) (m m' : Config) where
 
   stays-move : (t : Stmt) → Is t → is_end t ≡ false → Nested P (suc i) → Stays m m' → Move P m m'
   stays-move t w n N (a, b) =
-      goes_on_lem (goes-here t w n) (subst (Later P (suc i)) (sym a) same) (subst (Nested P) (sym a) N) b
+      goes_on (goes-here t w n) (subst (Later P (suc i)) (sym a) same) (subst (Nested P) (sym a) N) b
 
   jump-move :
       (t : Stmt) → Is t → is_end t ≡ false → (j : ℕ) → Later P (suc i) j → Nested P j → with_frame m (jump j m.frame) ≡ m' → Move P m m'
   unfolding with_frame jump
   jump-move t w n j l N e =
       let is : j ≡ m'.frame.row = ap (λ (c : Config). c.frame.row) e in
-      goes_on_lem (goes-here t w n) (subst (Later P (suc i)) is l) (subst (Nested P) is N) (sym (ap (λ (c : Config). c.callers) e))
+      goes_on (goes-here t w n) (subst (Later P (suc i)) is l) (subst (Nested P) is N) (sym (ap (λ (c : Config). c.callers) e))
 
   call-move : (x y n z : ℕ) → Is (simple (call x y n z)) → Nested P (suc i) → call_step y (method_numbered P n) z m ≡ ok m' → Move P m m'
   unfolding entered holding call_frame is_end called

@@ -1,5 +1,7 @@
 // The walk over the calls of a program, which gives main's bound and the most frames on a route of calls: "a struct per method with an
 // enum: not visited, on the present route, or done with its bound". The present route is a stack of blocks.
+#![tactic(auto)]
+
 mod counting;
 mod turns;
 
@@ -12,7 +14,7 @@ use counting::scan;
 use rules::Machine;
 use turns::{begin, turn};
 
-#[derive(Drop)]
+#[derive(Clone, Copy)]
 pub enum Visit {
     NotVisited,
     OnRoute,
@@ -20,14 +22,14 @@ pub enum Visit {
 }
 
 // A method; frames: where it is done, the most on a route that starts with it.
-#[derive(Drop)]
+#[derive(Clone, Copy)]
 pub struct Reckoned {
     pub visit: Visit,
     pub frames: u32,
 }
 
 // A block whose rows before `row` are counted: their sum, and the most frames on a route that starts with one of their calls.
-#[derive(Drop)]
+#[derive(Clone, Copy)]
 pub struct Open {
     pub method: usize,
     pub row: usize,
@@ -36,7 +38,7 @@ pub struct Open {
 }
 
 // What a row comes to: it is counted, it calls a method that is not done, it is a loop, or the block's `end`.
-#[derive(Drop)]
+#[derive(Clone, Copy)]
 pub enum Looked {
     On(u32, u32),
     Wait(usize),
@@ -45,21 +47,21 @@ pub enum Looked {
 }
 
 // Where the counting of a block stops.
-#[derive(Drop)]
+#[derive(Clone, Copy)]
 pub enum Halt {
     Wait(usize),
     Loop,
     End,
 }
 
-#[derive(Drop)]
+#[derive(Clone, Copy)]
 pub struct Scanned {
     pub block: Open,
     pub found: Halt,
 }
 
 // What is known of each method, and the blocks of the present route, the outermost first; or that there is no bound.
-#[derive(Drop)]
+#[derive(Clone, Copy)]
 pub struct Route {
     pub marks: [Reckoned; Machine::METHODS],
     pub blocks: [Open; Machine::METHODS + 1],
@@ -67,13 +69,13 @@ pub struct Route {
     pub unbounded: bool,
 }
 
-#[derive(Drop)]
+#[derive(Clone, Copy)]
 pub struct Known {
     pub marks: [Reckoned; Machine::METHODS],
     pub unbounded: bool,
 }
 
-#[derive(Drop)]
+#[derive(Clone, Copy)]
 pub enum Answer {
     Bounded(u32, u32),
     Unbounded,

@@ -1,5 +1,7 @@
 // What is dropped is looked for, and the facts that name it are forgotten or give way. Where that is one term alone, every side with its key
 // takes the key of its successor, or of the variable that stands in for it, and the labels stay.
+#![tactic(auto)]
+
 mod giving;
 
 ghost use Rattle.std.specs.Prelude.{◌≡◌, true, ◌≤◌, eqb};

@@ -1,4 +1,6 @@
 // Atoms shown and added (11 to 14).
+#![tactic(auto)]
+
 ghost use Rattle.std.specs.Prelude.{◌≡◌, List, not, ◌&&◌, ℕ, ◌≤◌, length, eqb};
 ghost use Rattle.std.proofs.Math.Option.{none};
 ghost use Rattle.rules.specs.Limits.{most_permissions};
@@ -16,7 +18,7 @@ use check_equality::{State, Term};
 use check_state::Resolved;
 use rules::Machine;
 
-#[derive(Drop)]
+#[derive(Clone, Copy)]
 pub enum Answer {
     Done,
     Unresolved,

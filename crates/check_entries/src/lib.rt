@@ -1,4 +1,6 @@
 // What becomes of the entries: of the entry i what stands there, or nothing where `out` has the flag i. Renaming stores that first.
+#![tactic(auto)]
+
 mod marks;
 
 ghost use Rattle.std.specs.Prelude.{◌≡◌, false, ◌+◌, ◌≤◌, ◌<◌, length, get_or, eqb};

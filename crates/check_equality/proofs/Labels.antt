@@ -72,6 +72,7 @@ pub record Ends (f : Fact) (t u : Term) : Type 0 where
 listed-before : {t u : Term} (fs : List Fact) (f : Fact) → Listed t u fs → Listed t u (fs ++ (f ∷ []))
 listed-before (g ∷ fs) f (here e p q) = here e p q
 listed-before (g ∷ fs) f (there l) = there (listed-before fs f l)
+listed-before {t = t} {u = u} [] f x' = elim x' [ ]
 
 listed-end : {t u : Term} (fs : List Fact) (f : Fact) → Ends f t u → Listed t u (fs ++ (f ∷ []))
 listed-end [] f e = here e.rel e.left e.right

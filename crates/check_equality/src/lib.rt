@@ -1,4 +1,6 @@
 // Terms of the checker as keys, and ~ by labels that are kept as facts are added.
+#![tactic(auto)]
+
 mod marks;
 mod slots;
 mod terms;
@@ -12,7 +14,7 @@ pub use terms::{key_of, path_key, variable_key};
 
 // The checker's state stands in two arrays: the keys of its slots; and bytes, which are the slots' labels, and what is known besides.
 // The constants below as one value.
-#[derive(Drop)]
+#[derive(Clone, Copy)]
 pub struct State {
     pub slots: usize,
     pub null: usize,
@@ -125,7 +127,7 @@ impl State {
 }
 
 // A term of the checker: a variable or a field by its number, a number by its 32 bits.
-#[derive(Drop)]
+#[derive(Clone, Copy)]
 pub enum Term {
     Num(u32),
     Null,

@@ -1,4 +1,6 @@
 // What becomes of a state when paths or a variable go: the remainder, removing, `set`; the state that knows nothing.
+#![tactic(auto)]
+
 ghost use Rattle.std.specs.Prelude.{◌≡◌, true, ◌+◌, ℕ, length, get_or, List};
 ghost use Rattle.check_equality.specs.Layout.{bytes, variables_at, fields_at};
 ghost use Rattle.check_equality.specs.Links.{Header};

@@ -1,4 +1,6 @@
 // Formulas of the tables shown and added, also with a call's actual names.
+#![tactic(auto)]
+
 ghost use Rattle.std.specs.Prelude.{◌≡◌, ◌+◌, ◌≤◌, ◌<◌, length};
 ghost use Rattle.rules.specs.Limits.{work_bytes, most_permissions};
 ghost use Rattle.rules.specs.State as Rules;

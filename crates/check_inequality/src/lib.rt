@@ -1,4 +1,6 @@
 // The ways (a) to (d) of showing an inequality.
+#![tactic(auto)]
+
 mod by_facts;
 mod by_numbers;
 

@@ -1,5 +1,7 @@
 // The facts of which no side is gone, with labels. Kept labels: where terms are dropped, those left are ~ after exactly if they were before,
 // so nothing is linked anew.
+#![tactic(auto)]
+
 mod anew;
 
 ghost use Rattle.std.specs.Prelude.{◌≡◌, true, ◌≤◌, ◌<◌, length};

@@ -1,4 +1,6 @@
 // A statement's row by its kind: the rule of the statement, from the operands that stand in the tables.
+#![tactic(auto)]
+
 ghost use Rattle.std.specs.Prelude.{◌≡◌, ◌<◌};
 ghost use Rattle.rules.specs.Grammar.{Let, New, Call, If, Loop, GoesOn};
 ghost use Rattle.rules.specs.Syntax as Syntax;

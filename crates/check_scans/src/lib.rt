@@ -1,5 +1,7 @@
 // Where forgetting begins: the first fact that it may change, which is one that names what is dropped, or has one term on both sides. The
 // facts before it stay as they are.
+#![tactic(auto)]
+
 mod keys;
 mod sides;
 

@@ -1,4 +1,6 @@
 // The checker's state in two arrays, and what it answers: ~, resolving, the first entry of a term, the first other variable ~ x.
+#![tactic(auto)]
+
 ghost use Rattle.std.specs.Prelude.{◌≡◌, ◌&&◌, ◌≤◌, length};
 ghost use Rattle.rules.specs.Limits.{most_permissions};
 ghost use Rattle.rules.specs.Syntax.{var};
@@ -109,7 +111,7 @@ pub fn equal<'a>(key: &'a [u64; State::SLOTS], b: &'a [u8; State::BYTES], t: u64
 }
 
 // A term by its key, or none.
-#[derive(Drop)]
+#[derive(Clone, Copy)]
 pub enum Resolved {
     Key(u64),
     Nothing,

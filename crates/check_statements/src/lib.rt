@@ -1,4 +1,6 @@
 // The rule of each statement.
+#![tactic(auto)]
+
 mod branches;
 mod chains;
 mod objects;

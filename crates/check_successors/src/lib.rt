@@ -1,4 +1,6 @@
 // The successor of a dropped term: the first term left that is ~ to it, in the order of variables, listed paths, null, numbers rising.
+#![tactic(auto)]
+
 ghost use Rattle.std.specs.Prelude.{◌≡◌, ◌+◌, ◌*◌, ◌≤◌, length};
 ghost use Rattle.rules.specs.Limits.{most_permissions};
 ghost use Rattle.rules.proofs.Rising.{least};

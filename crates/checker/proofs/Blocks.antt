@@ -158,8 +158,8 @@ module _ (w : List ℕ) (T : Tables w) where
       (λ k. end-inside w r.at E.within (end-means w (operands_at w r.at) k) _ o φ os)
       (λ k. again-out w r.at E.within (again-means w (operands_at w r.at) k) _ o (λ q. n (k ∙ q)) φ os)
 
-  pub goes_on_lem : (i : ℕ) → i < row_count w → (kind_at w i ≡ 18 → ⊥) → i + 1 < row_count w
-  goes_on_lem i h g = ⊎_elim (λ e. absurd (g e)) (λ n. omega arith) (T.row_fits i h).follows.next
+  pub goes_on : (i : ℕ) → i < row_count w → (kind_at w i ≡ 18 → ⊥) → i + 1 < row_count w
+  goes_on i h g = ⊎_elim (λ e. absurd (g e)) (λ n. omega arith) (T.row_fits i h).follows.next
 
   -- THE FIRST PART'S END
   module _ (one : Out) (E : Ended w one) where
@@ -179,7 +179,7 @@ module _ (w : List ℕ) (T : Tables w) where
           record {
             place = refl;
             was = λ e. e;
-            next = λ _. goes_on_lem one.at E.within (λ m. omega arith);
+            next = λ _. goes_on one.at E.within (λ m. omega arith);
             nests = λ _ d t. else-nests w one.at E.within (else-means w (operands_at w one.at) k) d t;
             same = λ s s₂ φ os. ap (outcome one.answer (line_at w one.at)) (else-verdict w one.at E.within (else-means w (operands_at w one.at) k) (end_of one.returned s) s₂ φ os);
           }
@@ -223,7 +223,7 @@ module _ (w : List ℕ) (T : Tables w) where
           record {
             wf = f;
             on = on-far k end.at;
-            within = on-within k end.at _ (goes_on_lem end.at E.within m);
+            within = on-within k end.at _ (goes_on end.at E.within m);
             was = λ _. e;
             nests = λ q d h. subst (λ (j : ℕ). Nests w j d) (sym (on-done k end.at q)) (nests d h);
             same = λ φ os.
@@ -300,7 +300,7 @@ module _ (w : List ℕ) (T : Tables w) where
               record {
                 wf = f;
                 on = omega arith;
-                within = goes_on_lem i h (λ m. omega arith);
+                within = goes_on i h (λ m. omega arith);
                 nests = λ _. return-nests w i h (x_at w i) (return-means w (operands_at w i) q) _ n;
                 same = λ os. returned-verdict os ∙ done-outcome k e _ _ ∙ sym (done-outcome Answer.Done refl _ _);
               };
@@ -337,7 +337,7 @@ module _ {w : List ℕ} {depth i a n : ℕ} (Q : Stands w depth i a n) where
             record {
               wf = S.adds.wf;
               on = on-far k i;
-              within = on-within k i _ (goes_on_lem w Q.tables i Q.within (no_end _ l));
+              within = on-within k i _ (goes_on w Q.tables i Q.within (no_end _ l));
               nests = λ e. subst (λ (j : ℕ). Nests w j (most_branches - depth)) (sym (on-done k i e)) (step-nests w i Q.within s k key b S _ Q.nests);
               same = λ os. step-verdict w i Q.within s k key b S φ os ∙ on-outcome k i (line_at w) (λ j. verdict_from w j (some (state_of key b)) φ os);
             };
@@ -359,7 +359,7 @@ module _ {w : List ℕ} {depth i a n : ℕ} (Q : Stands w depth i a n) where
       record {
         tables = Q.tables;
         deep = omega arith;
-        within = goes_on_lem w Q.tables i Q.within e;
+        within = goes_on w Q.tables i Q.within e;
         nests = subst (λ (m : ℕ). Nests w (i + 1) m) c p.1;
         atoms = Q.atoms;
       }

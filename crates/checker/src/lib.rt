@@ -1,5 +1,7 @@
 // Blocks, methods and main: the rules walked over the tables. A block's checker calls itself for each part of a branch and for each loop,
 // the remaining depth falling.
+#![tactic(auto)]
+
 mod parts;
 
 ghost use Rattle.std.specs.Prelude.{◌≡◌, false, [], ◌+◌, ◌≤◌, ◌<◌};
@@ -18,14 +20,14 @@ use check_equality::State;
 use rules::{Kind, Machine};
 
 // How far a block was checked, and whether the line before was a `return`; or why no further.
-#[derive(Drop)]
+#[derive(Clone, Copy)]
 pub struct Out {
     pub answer: Answer,
     pub at: usize,
     pub returned: bool,
 }
 
-#[derive(Drop)]
+#[derive(Clone, Copy)]
 pub enum Verdict {
     Accepted,
     Refused(Answer, usize),

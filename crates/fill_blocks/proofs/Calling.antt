@@ -61,10 +61,10 @@ module _ (w : List ℕ) (m i : ℕ) where
   unfolding s
   calls e = call-here (program_in w) m i (line_in w i) (says _) e
 
-  pub goes_on_lem :
+  pub goes_on :
       is_end_line (line_in w i) ≡ false → is_call_line m (line_in w i) ≡ false → calls_from (program_in w) m i ≡ calls_from (program_in w) m (suc i)
   unfolding s
-  goes_on_lem d e = call-later (program_in w) m i (line_in w i) (says _) d e
+  goes_on d e = call-later (program_in w) m i (line_in w i) (says _) d e
 
   pub row-follows : Tables w → i < row_count w → is_end_line (line_in w i) ≡ false → suc i < row_count w
   unfolding is_end_line

@@ -1,4 +1,6 @@
 // Which blocks of a program are accepted, and which of them call a method: what a change of its requires leaves as it was.
+#![tactic(auto)]
+
 ghost use Rattle.std.specs.Prelude.{◌≡◌, ◌<◌};
 ghost use Rattle.rules.specs.Calls.{is_accepted};
 ghost use Rattle.tables.specs.Decode.{row_count, program_in};

@@ -15,7 +15,7 @@ use Rattle.tables.specs.Layout.{most_atom_rows, methods_at, classes_at, places_a
 use Rattle.tables.specs.Decode.{run, atom_place, row_place, kind_at, target_at, row_at, all_rows, row_count, atom_count, class_count, method_count, main_first, requires_first_at, requires_count_at, ensures_first_at, ensures_count_at, requires_at, method_at, methods_from, method_place, first_row_at, class_place, places_place, class_at, classes_from, program_in}
 use Rattle.tables.specs.Tables.{AtomFitsAt, AtomsFit, RowFits, HasTarget, TargetFits, FormulasFit, MethodFits, Tables, BlockFits, declared_in}
 use Rattle.tables.specs.Stores.{Kept}
-use Rattle.tables.proofs.Bytes.{half-kept}
+use Rattle.tables.proofs.BytesRead.{half-kept}
 use Rattle.tables.proofs.Runs.{run-same, less-or-not}
 use Rattle.tables.proofs.Kept.{RowsKept, all-rows, one_atom, atom-fits-kept, row_same, operands-fit-kept, after-requires, first-row-kept, ensures-fit-kept, ensures-kept, formulas-fit-kept, method-same, class_same, class-fits-kept}
 use Rattle.write_rows.proofs.Kept.{atoms-more, operands-more}
@@ -56,7 +56,7 @@ with-one f g φ (suc m) i (suc k) l same one =
 module _ (w w' : List ℕ) (m n : ℕ) (S : Spared w m n) (R : Rewritten w m n w') where
   -- THE HEADER
   rows_same : row_count w' ≡ row_count w
-  rows_same = half-kept 0 2 w w' R.row_count 0 (omega arith) (omega arith)
+  rows_same = half-kept 0 2 w w' R.row_count_lem 0 (omega arith) (omega arith)
 
   classes-same : class_count w' ≡ class_count w
   classes-same = R.rows 4 (omega arith) (omega arith)

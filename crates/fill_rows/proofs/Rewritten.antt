@@ -15,7 +15,7 @@ use Rattle.tables.specs.Layout.{most_names, frame_variables, methods_at, atoms_a
 use Rattle.tables.specs.Decode.{atom_place, method_place, atom_at, atoms_from, atom_count, requires_first_at, requires_count_at, requires_at, program_in, is_permission, permit_of}
 use Rattle.tables.specs.Tables.{SideFits, AtomFitsAt}
 use Rattle.tables.specs.Stores.{meaning, Kept, put_half}
-use Rattle.tables.proofs.Bytes.{half-kept, half-put, put-half-byte, put-half-length, kept_trans}
+use Rattle.tables.proofs.BytesRead.{half-kept, half-put, put-half-byte, put-half-length, kept_trans}
 use Rattle.tables.proofs.Runs.{three_ways}
 use Rattle.tables.proofs.Kept.{atoms-kept, atom-fits-kept}
 use Rattle.write_rows.specs.Puts.{tag_of, put_atom, put_requires}
@@ -95,7 +95,7 @@ module _ (w : List ℕ) (m n : ℕ) (S : Spared w m n) (a x f : ℕ) (low : n �
   acc-rewrites =
       record {
         size = atom-length w a acc_atom _ _ S.tables.size (omega (arith, S.room)) ok;
-        row_count_lem = K _ _ (inl (omega arith));
+        row_count = K _ _ (inl (omega arith));
         rows = K _ _ (inl (omega arith));
         others = λ j l d. K (method_place j) (method_place j + 8) (inl (omega (arith, S.tables.methods)));
         after = K _ _ (inl (omega (arith, S.method, S.tables.methods)));
@@ -167,7 +167,7 @@ module _ (w : List ℕ) (m n k : ℕ) (S : Spared w m n) (few : k ≤ most_fille
   set-rewrites =
       record {
         size = set-size;
-        row_count_lem = both-kept _ _ (inl (omega arith)) (inl (omega arith));
+        row_count = both-kept _ _ (inl (omega arith)) (inl (omega arith));
         rows = both-kept _ _ (inr (omega arith)) (inl (omega arith));
         others = λ j l d. both-kept _ _ (inr (omega arith))
             (⊎_elim (λ e. absurd (d e)) (λ o. ⊎_elim (λ g. inl (omega arith)) (λ g. inr (omega arith)) o) (three_ways j m));

@@ -1,4 +1,6 @@
 // The requires of one method written anew in the tables of a text.
+#![tactic(auto)]
+
 ghost use Rattle.std.specs.Prelude.{◌≤◌};
 ghost use Rattle.rules.specs.Limits.{most_filled};
 ghost use Rattle.fill_rows.specs.Rewrites.{Spared, AtomsThere, SetPut};

@@ -1,4 +1,6 @@
 // The first set of permissions with which the tables of a text are accepted, as the requires of one method.
+#![tactic(auto)]
+
 ghost use Rattle.std.specs.Prelude.{◌≡◌, [], ◌+◌, ◌≤◌, ◌<◌, length, get_or, replicate};
 ghost use Rattle.rules.specs.Limits.{most_fields, most_filled, places_bytes};
 ghost use Rattle.tables.specs.Layout.{most_atom_rows};
@@ -13,7 +15,7 @@ use tables::{AtomKind, Expr, HeaderAt};
 
 // A method whose requires is sought: its number, the row of its first atom, the classes of `this` and of the parameter, how many fields
 // `this` has, and how many both have.
-#[derive(Drop)]
+#[derive(Clone, Copy)]
 pub struct Sought {
     pub method: usize,
     pub first: usize,
@@ -24,7 +26,7 @@ pub struct Sought {
 }
 
 // `acc x f`
-#[derive(Drop)]
+#[derive(Clone, Copy)]
 pub struct Access {
     pub variable: usize,
     pub field: usize,

@@ -114,7 +114,7 @@ module _
 
     star-class : InClass s
     unfolding s stage_number Grammar.opened
-    star-class = stands-in-class Method H.place s (lit≤ tt) (lit≤ tt) H.taken.in_place H.classed
+    star-class = stands-in-class Method H.place s (lit≤ tt) (lit≤ tt) H.taken.is_in_place H.classed
 
     class-number : class_number Γ s.members.class ≡ pred (length s.classes)
     unfolding s

@@ -23,8 +23,8 @@ none_of qs k ps e = subst (Of qs k) (sym e) none
     none : Of qs k []
     none = record { among = λ p i. elim i [ ]; count = omega arith }
 
-one_more_lem : (q : ℕ) (qs : List ℕ) (k : ℕ) (ps : List ℕ) → Of qs k ps → Of (q ∷ qs) (suc k) (q ∷ ps)
-one_more_lem q qs k ps O =
+one_more : (q : ℕ) (qs : List ℕ) (k : ℕ) (ps : List ℕ) → Of qs k ps → Of (q ∷ qs) (suc k) (q ∷ ps)
+one_more q qs k ps O =
     let h : length ps ≤ k = O.count in
     record {
       among = λ p i. ⊎_elim (λ j. further (O.among p j)) (λ e. subst (λ r. Member r (q ∷ qs)) (sym e) at_head) (head-or i);
@@ -39,7 +39,7 @@ chosen (suc k) (q ∷ qs) ps i =
     ⊎_elim
     (λ j.
     let (rs, h, e) = map-member (λ r. q ∷ r) (choose k qs) ps j in
-    subst (Of (q ∷ qs) (suc k)) (sym e) (one_more_lem q qs k rs (chosen k qs rs h)))
+    subst (Of (q ∷ qs) (suc k)) (sym e) (one_more q qs k rs (chosen k qs rs h)))
     (λ j. let O = chosen (suc k) qs ps j in record { among = λ p i. further (O.among p i); count = O.count })
     (append-member (map (λ r. q ∷ r) (choose k qs)) (choose (suc k) qs) ps i)
 

@@ -124,22 +124,22 @@ module _ (text : List Line) (p : Place) (s : Scope) where
       let (_, n) = class-new _ _ s ws t.formed t.known in
       in-class (record { earlier = s.classes; classes = refl; fresh = λ h. T_not (any (eq_name (get_or ws 0 [])) s.classes) n h })
   line-classed Field ws t c =
-      let C : InClass s = stands-in-class Field p s (lit≤ tt) (lit≤ tt) t.in_place c in
+      let C : InClass s = stands-in-class Field p s (lit≤ tt) (lit≤ tt) t.is_in_place c in
       in-class (record { earlier = C.earlier; classes = C.classes; fresh = C.fresh })
   line-classed Method ws t c =
-      let C : InClass s = stands-in-class Method p s (lit≤ tt) (lit≤ tt) t.in_place c in
+      let C : InClass s = stands-in-class Method p s (lit≤ tt) (lit≤ tt) t.is_in_place c in
       in-class (record { earlier = C.earlier; classes = C.classes; fresh = C.fresh })
   line-classed Requires ws t c =
-      let C : InClass s = stands-in-class Requires p s (lit≤ tt) (lit≤ tt) t.in_place c in
+      let C : InClass s = stands-in-class Requires p s (lit≤ tt) (lit≤ tt) t.is_in_place c in
       in-class (record { earlier = C.earlier; classes = C.classes; fresh = C.fresh })
   line-classed Ensures ws t c =
-      let C : InClass s = stands-in-class Ensures p s (lit≤ tt) (lit≤ tt) t.in_place c in
+      let C : InClass s = stands-in-class Ensures p s (lit≤ tt) (lit≤ tt) t.is_in_place c in
       in-class (record { earlier = C.earlier; classes = C.classes; fresh = C.fresh })
   line-classed Main ws t c = in-main tt (lit≤ tt)
-  line-classed Var ws t (at-beginning e) = absurd (not_first Var p (lit≤ tt) t.in_place e)
+  line-classed Var ws t (at-beginning e) = absurd (not_first Var p (lit≤ tt) t.is_in_place e)
   line-classed Var ws t (in-main m h) = in-main m (lit≤ tt)
   line-classed Var ws t (in-class C) = in-class (record { earlier = C.earlier; classes = C.classes; fresh = C.fresh })
-  line-classed (statement a) ws t (at-beginning e) = absurd (not_first (statement a) p (lit≤ tt) t.in_place e)
+  line-classed (statement a) ws t (at-beginning e) = absurd (not_first (statement a) p (lit≤ tt) t.is_in_place e)
   line-classed (statement a) ws t (in-main m h) =
       in-main m
       (main-goes-on (is_kind (statement End) (statement a)) (eqb (statement_number a) (statement_number Return)) p.main m)
@@ -189,7 +189,7 @@ module _ (text : List Line) where
   unfolding Grammar.opened stage_number
   line-fields p s Class ws c n r t C e l h = h
   line-fields p s Field ws c n r t C e l h =
-      let D : InClass s = stands-in-class Field p s (lit≤ tt) (lit≤ tt) t.in_place C in
+      let D : InClass s = stands-in-class Field p s (lit≤ tt) (lit≤ tt) t.is_in_place C in
       let (a, b) = field-new _ _ s ws t.formed t.known in
       (record { named = a; free = b; owned = omega (arith, in-class-count s D) }, h)
   line-fields p s Method ws c n r t C e l h = h

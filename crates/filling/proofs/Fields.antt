@@ -91,7 +91,7 @@ module _ (text : List Line) where
         ≡ get_or P.classes i [] ++ fields_in Γ i (cond (is_kind Field k) (field_of c ws ∷ r) r)
     unfolding with_item item_of Grammar.opened stage_number
     line-built vs Class ws r t C = ap (λ fs. fs ++ fields_in Γ i r) (empty-more P.classes i [])
-    line-built vs Field ws r t C = field-line vs ws r (stands-in-class Field p s (lit≤ tt) (lit≤ tt) t.in_place C)
+    line-built vs Field ws r t C = field-line vs ws r (stands-in-class Field p s (lit≤ tt) (lit≤ tt) t.is_in_place C)
     line-built vs Method ws r t C = refl
     line-built vs Requires ws r t C = refl
     line-built vs Ensures ws r t C = refl

@@ -147,7 +147,7 @@ module _ (text : List Line) (ws : List Name) (below : List Line) (after : List I
   at-header p s l [] (a ∷ []) star C q ts =
       let (t, e, ts₁) = first_taken text p s _ _ ts in
       let (u, _, ts₂) = first_taken text (place_after l.kind p) (scope_after s l) _ _ ts₁ in
-      let k : l.kind ≡ Method = header-kind l.kind p (stands-after-header (place_after l.kind p) u.in_place) in
+      let k : l.kind ≡ Method = header-kind l.kind p (stands-after-header (place_after l.kind p) u.is_in_place) in
       subst (λ a. AtHeader text s ws (l ∷ []) below (a ∷ []) after) e (header-here p s l.kind l.fields k C t ts₂)
   at-header p s l [] (a ∷ b ∷ before) star C q ts = absurd (omega arith)
   at-header p s l (m ∷ above) (a ∷ before) star C q ts =
@@ -162,7 +162,7 @@ module _ (text : List Line) (ws : List Name) (below : List Line) (after : List I
       TakenLines text p s (above ++ (line_of Requires ws ∷ below)) (before ++ (star ∷ after)) →
       AtHeader text s ws above below before after
   star-header p s [] [] star C h q ts =
-      let (t, _, _) = first_taken text p s _ _ ts in absurd (h (stands-after-header p t.in_place))
+      let (t, _, _) = first_taken text p s _ _ ts in absurd (h (stands-after-header p t.is_in_place))
   star-header p s [] (a ∷ before) star C h q ts = absurd (omega arith)
   star-header p s (l ∷ above) before star C h q ts = at-header p s l above before star C q ts
 

@@ -16,7 +16,7 @@ use Rattle.filling.proofs.Words.{plain, Plain, not-feed, Named, words-plain}
 -- a line with its LF, and no other
 data Whole : Name → Type 0 where
   ends : Whole (line_feed ∷ [])
-  goes_on_lem : {b : ℕ} {w : Name} → eqb b line_feed ≡ false → Whole w → Whole (b ∷ w)
+  goes_on : {b : ℕ} {w : Name} → eqb b line_feed ≡ false → Whole w → Whole (b ∷ w)
 
 -- a last line without
 data Open : Name → Type 0 where
@@ -34,7 +34,7 @@ onto-parted : (b : ℕ) (ls : List Name) → eqb b line_feed ≡ false → Parte
 unfolding onto
 onto-parted b ls h none = last (one h)
 onto-parted b ls h (last o) = last (more h o)
-onto-parted b ls h (line w p) = line (goes_on_lem h w) p
+onto-parted b ls h (line w p) = line (goes_on h w) p
 
 lines-parted : (t : List ℕ) → Parted (lines t)
 unfolding lines
@@ -57,7 +57,7 @@ first_byte b t h = rw h
 whole-first : (w t : Name) → Whole w → lines (w ++ t) ≡ w ∷ lines t
 unfolding lines onto
 whole-first w t ends = refl
-whole-first w t (goes_on_lem {b = b} {w = v} h o) = first_byte b (v ++ t) h ∙ ap (onto b) (whole-first v t o)
+whole-first w t (goes_on {b = b} {w = v} h o) = first_byte b (v ++ t) h ∙ ap (onto b) (whole-first v t o)
 
 open-alone : (w : Name) → Open w → lines w ≡ w ∷ []
 unfolding lines onto
@@ -75,12 +75,12 @@ found-again ls (line {w = w} {ls = m} o p) = whole-first w (joined m) o ∙ ap (
 plain-whole : (w t : Name) → Plain w → Whole t → Whole (w ++ t)
 unfolding all
 plain-whole [] t p o = o
-plain-whole (b ∷ w) t p o = let (x, y) = and_both (plain b) _ p in goes_on_lem (not-feed b x) (plain-whole w t y o)
+plain-whole (b ∷ w) t p o = let (x, y) = and_both (plain b) _ p in goes_on (not-feed b x) (plain-whole w t y o)
 
 tabbed-whole : (ws : List Name) → All Plain ws → Whole (tabbed ws)
 unfolding tabbed
 tabbed-whole [] p = ends
-tabbed-whole (w ∷ ws) (p, ps) = goes_on_lem refl (plain-whole w (tabbed ws) p (tabbed-whole ws ps))
+tabbed-whole (w ∷ ws) (p, ps) = goes_on refl (plain-whole w (tabbed ws) p (tabbed-whole ws ps))
 
 line-whole : (αs : List Access) → All Named αs → Whole (requires_line (atom_words αs))
 unfolding requires_line Base.opened

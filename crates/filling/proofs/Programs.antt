@@ -119,7 +119,7 @@ module _ (text : List Line) (m : ℕ) (φ : Formula ℕ) where
     line-with vs Field ws t = refl
     line-with vs Grammar.Method ws t = ap (methods_in P) (with-more _ m φ P.methods R.there)
     line-with vs Requires ws t =
-        ap (methods_in P) (with-later _ m φ P.methods (R.later (stands-after-header p t.in_place)))
+        ap (methods_in P) (with-later _ m φ P.methods (R.later (stands-after-header p t.is_in_place)))
     line-with vs Ensures ws t = ap (methods_in P) (with-ensures _ m φ P.methods)
     line-with vs Main ws t = refl
     line-with vs Var ws t = refl

@@ -62,7 +62,7 @@ module _ (Γ : Declarations) (vs : List Variable) (s : Scope) where
     where
       both : (αs : List Access) → All (Good Γ vs) αs → All (λ (α : Access). T (in_scope vs α.variable) × T (known_field Γ vs α.variable α.field)) αs
       both [] h = tt
-      both (α ∷ αs) (g, h) = ((g.in_scope, g.known), both αs h)
+      both (α ∷ αs) (g, h) = ((g.in_scope_lem, g.known), both αs h)
 
   agrees : (αs : List Access) → T (all (atom_agrees Γ vs) (formula_of (atom_words αs)))
   unfolding atom_agrees atom_words Text.opened Base.opened Syntax.is_path

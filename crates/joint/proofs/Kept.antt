@@ -126,7 +126,7 @@ module _ (ss : List Station) (l : SharesFit ss) (i : ℕ) (P : Program) (e : (st
     kept n C j D o f X u a p k b q c d =
         let (x, y, z) = X in
         let t : n ≤ R.steps = omega (arith, C.is_done) in
-        field_is b q j c d o f (existed (room_at ss i) P R j o D.up_to_lem (x, omega (arith, y, D.after), z))
+        field_is b q j c d o f (existed (room_at ss i) P R j o D.up_to (x, omega (arith, y, D.after), z))
         ∙ frame-kept (room_at ss i) P R n C j D o f X u
         ∙ sym
         (field_is a p n (omega (arith, k, t, at_most (room_at ss i) P R)) (omega (arith, k, t)) o f (existed (room_at ss i) P R n o t X))

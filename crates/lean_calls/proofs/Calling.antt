@@ -22,7 +22,7 @@ use Rattle.soundness.proofs.LeanFollows.{footprint-only}
 use Rattle.tables.specs.Layout.{frame_variables, frames_at}
 use Rattle.tables.specs.Decode.{y_at, z_at, member_at, method_count, method_at, requires_at, first_row_at, program_in}
 use Rattle.tables.specs.Stores.{SameTables, put_word}
-use Rattle.tables.proofs.Bytes.{put-word-length}
+use Rattle.tables.proofs.BytesRead.{put-word-length}
 use Rattle.tables.proofs.Decoding.{first-row-same}
 use Rattle.run_heap.specs.Views.{frame_at, variable_at, fill, frame_put, prepared, next_view, frame_holder, frame_row, frame_method, frame_parameter}
 use Rattle.run_footprint.specs.Footprints.{spread, marked, take_in, SharesFit}

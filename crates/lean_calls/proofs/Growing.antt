@@ -14,7 +14,7 @@ use Rattle.rules.specs.declared.Machine.{Machine}
 use Rattle.tables.specs.Layout.{values_at, objects_at, frames_at}
 use Rattle.tables.specs.Decode.{x_at, member_at, field_count_at, class_count, program_in}
 use Rattle.tables.specs.Stores.{SameTables, put_half, put_word}
-use Rattle.tables.proofs.Bytes.{same-trans, put-half-length}
+use Rattle.tables.proofs.BytesRead.{same-trans, put-half-length}
 use Rattle.tables.proofs.Decoding.{field-count-same}
 use Rattle.run_heap.specs.Views as Views
 use Rattle.run_heap.specs.Views.{frame_at, view_of}

@@ -21,7 +21,7 @@ use Rattle.tables.specs.declared.Operands.{Operands}
 use Rattle.tables.specs.Layout.{frame_variables, frames_at}
 use Rattle.tables.specs.Decode.{x_at, ensures_at, program_in}
 use Rattle.tables.specs.Stores.{put_word}
-use Rattle.tables.proofs.Bytes.{same_refl, put-word-length}
+use Rattle.tables.proofs.BytesRead.{same_refl, put-word-length}
 use Rattle.run_heap.specs.Views.{frame_at, variable_at, saved_holder, saved_row, method_of, view_of}
 use Rattle.run_footprint.specs.Footprints.{spread, take_in, SharesFit}
 use Rattle.run_footprint.proofs.Regions.{Only, only-word, only-tables}

@@ -1,4 +1,6 @@
 // `call`, `return`, `end` and `new` of the lean machine: a frame more, a frame less, an object more; formulas are not read.
+#![tactic(auto)]
+
 ghost use Rattle.std.specs.Prelude.{◌⊎◌, ◌≡◌, ◌+◌, ◌*◌, ◌≤◌, ◌<◌, length};
 ghost use Rattle.rules.specs.Limits.{work_bytes, most_statements, most_classes, most_frames, heap_objects, heap_fields};
 ghost use Rattle.rules.specs.Grammar.{New, Call, Return, End};

@@ -10,7 +10,7 @@ use Rattle.rules.specs.Limits.{heap_objects, heap_fields}
 use Rattle.rules.proofs.Lists.{decide_eq}
 use Rattle.tables.specs.Layout.{frame_variables, values_at, holders_at, objects_at, frames_at}
 use Rattle.tables.specs.Stores.{SameTables, put_half, put_word, Kept}
-use Rattle.tables.proofs.Bytes.{put-word-length, word_kept, half-kept}
+use Rattle.tables.proofs.BytesRead.{put-word-length, word_kept, half-kept}
 use Rattle.run_heap.specs.Views.{frame_at, variable_at, saved_row, cell_value, class_in, first_in, fill, frame_holder, frame_row, frame_method, whole}
 use Rattle.run_footprint.specs.Footprints.{marked, SharesFit}
 use Rattle.run_footprint.proofs.Regions.{Only, only-word, only-byte, only-fill, apart}

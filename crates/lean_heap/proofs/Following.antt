@@ -21,7 +21,7 @@ use Rattle.tables.specs.declared.Operands.{Operands}
 use Rattle.tables.specs.Decode.{byte_at, expr_at, atom_place, left_at, right_at, kind_at, x_at, y_at, z_at, member_at, first_atom_at, operands_at, target_at, atom_count, program_in}
 use Rattle.tables.specs.Tables.{Tables, OperandsFit, SideFits, declared_in}
 use Rattle.tables.specs.Stores.{SameTables, put_word, meaning}
-use Rattle.tables.proofs.Bytes.{same_refl, half-kept}
+use Rattle.tables.proofs.BytesRead.{same_refl, half-kept}
 use Rattle.tables.proofs.Kept.{all-rows, operands-kept}
 use Rattle.tables.proofs.Decoding.{tables-same, program-same, kind-same}
 use Rattle.run_heap.specs.declared.Fault.{Fault}

@@ -1,4 +1,6 @@
 // The lean machine's stores: heap and frames in the work area without holders, and what an accepted script reads there without a test.
+#![tactic(auto)]
+
 ghost use Rattle.std.specs.Prelude.{◌≡◌, ◌+◌, ◌-◌, ◌≤◌, ◌<◌, length};
 ghost use Rattle.rules.specs.Limits.{work_bytes, most_frames, heap_fields};
 ghost use Rattle.tables.specs.Layout.{most_names, frame_variables};
@@ -11,7 +13,7 @@ use run_heap::Stores;
 use tables::{Expr, Layout};
 
 // The lean machine's counters.
-#[derive(Drop)]
+#[derive(Clone, Copy)]
 pub struct Counters {
     pub objects: u32,
     pub fields: u32,
@@ -23,7 +25,7 @@ pub struct Counters {
 }
 
 // Why a step is not done: 24, 25 and 26 are not among it.
-#[derive(Drop)]
+#[derive(Clone, Copy)]
 pub enum Stop {
     HeapFull,
     FramesFull,
@@ -31,7 +33,7 @@ pub enum Stop {
 }
 
 // What became of a step: on to the next, not done, or main's `end` done.
-#[derive(Drop)]
+#[derive(Clone, Copy)]
 pub enum Turn {
     On(Counters),
     Stopped(Stop),

@@ -20,7 +20,7 @@ use Rattle.tables.specs.Layout.{frame_variables, frames_at}
 use Rattle.tables.specs.Decode.{word_at, kind_at, line_at, main_first, program_in}
 use Rattle.tables.specs.Tables.{Tables}
 use Rattle.tables.specs.Stores.{SameTables, Kept}
-use Rattle.tables.proofs.Bytes.{same-trans, same_refl, word_kept, half-kept}
+use Rattle.tables.proofs.BytesRead.{same-trans, same_refl, word_kept, half-kept}
 use Rattle.tables.proofs.Decoding.{program-same}
 use Rattle.run_heap.specs.Views.{fill, frame_holder}
 use Rattle.machine.specs.Runs.{words, main_values}
@@ -143,9 +143,9 @@ module _ {w₀ w : List ℕ} {k : ℕ} {c : Counters} (G : Going w₀ w k c) whe
   pub at-row : (length w ≡ 65536) × (c.row < most_statements)
   at-row = ((tables G.stands).size, row_small G.stands)
 
-  pub goes_on_lem : {w' : List ℕ} {d : Counters} → c.steps < k → Does w c w' (Turn.On d) → Going w₀ w' k d
+  pub goes_on : {w' : List ℕ} {d : Counters} → c.steps < k → Does w c w' (Turn.On d) → Going w₀ w' k d
   unfolding go_on
-  goes_on_lem {w'} {d} l D =
+  goes_on {w'} {d} l D =
       let N : Goes w' c d (step whole_heap (program_in w) G.state) = D.follows G.state G.stands (unstuck l) in
       record {
         tables = G.tables;

@@ -1,4 +1,6 @@
 // The lean machine: one step by the kind of its row, and a run of an accepted script.
+#![tactic(auto)]
+
 ghost use Rattle.std.specs.Prelude.{◌≡◌, ◌+◌, ◌<◌, length};
 ghost use Rattle.rules.specs.Limits.{work_bytes, most_statements};
 ghost use Rattle.rules.specs.Answers.{stop_number};
@@ -18,7 +20,7 @@ use tables::Layout;
 const UNKNOWN: u8 = Kind::LAST + 1;
 
 // How a run ends: 24, 25 and 26 are not among it.
-#[derive(Drop)]
+#[derive(Clone, Copy)]
 pub enum Ending {
     Finished,
     StepsTaken,
@@ -26,7 +28,7 @@ pub enum Ending {
 }
 
 // What a run ends with; main's values are in its frame.
-#[derive(Drop)]
+#[derive(Clone, Copy)]
 pub struct Ran {
     pub ending: Ending,
     pub line: u32,

@@ -21,7 +21,7 @@ use Rattle.tables.specs.Layout.{frame_variables, most_names, most_atom_rows, val
 use Rattle.tables.specs.declared.Expr as Tables
 use Rattle.tables.specs.Decode.{byte_at, atom_place, left_at, right_at, rel_of, kind_at, operation_of, x_at, y_at, z_at, member_at, target_at, first_atom_at, atom_count, formula_at, program_in}
 use Rattle.tables.specs.Stores.{put_word, meaning}
-use Rattle.tables.proofs.Bytes.{same_refl}
+use Rattle.tables.proofs.BytesRead.{same_refl}
 use Rattle.run_heap.specs.Views as Views
 use Rattle.run_heap.specs.Views.{frame_at, variable_at, cell_value, spot, read_in, view_of}
 use Rattle.run_heap.specs.Chains.{walk_in}

@@ -1,4 +1,6 @@
 // The lean machine's steps that stay in their frame. No formula is evaluated, and no null, object or permission is tested.
+#![tactic(auto)]
+
 ghost use Rattle.std.specs.Prelude.{◌≡◌, ◌≤◌, ◌<◌, T, length};
 ghost use Rattle.rules.specs.Limits.{work_bytes, most_statements};
 ghost use Rattle.rules.specs.Grammar.{Set, Let, Open, loop_kind, is_computing};

@@ -18,7 +18,7 @@ use Rattle.tables.specs.Layout.{frame_variables, frames_at}
 use Rattle.tables.specs.Decode.{word_at, row_at, line_at, main_first, program_in}
 use Rattle.tables.specs.Tables.{Tables}
 use Rattle.tables.specs.Stores.{SameTables}
-use Rattle.tables.proofs.Bytes.{same-trans, same_refl}
+use Rattle.tables.proofs.BytesRead.{same-trans, same_refl}
 use Rattle.tables.proofs.Decoding.{tables-same, rows-count-same, program-same}
 use Rattle.run_heap.specs.declared.Fault.{Fault}
 use Rattle.run_steps.specs.declared.Turn.{Turn}
@@ -199,10 +199,10 @@ module _ {room : Room} {w₀ w : List ℕ} {k : ℕ} {c : Machine} (G : Going ro
   unfolding run
   one l = let e : k - c.steps ≡ suc (k - (c.steps + 1)) = omega arith in rw (e, program-is)
 
-  pub goes_on_lem :
+  pub goes_on :
       {w' : List ℕ} {d : Machine} → c.steps < k → Does w c w' (Turn.On d) (step room (program_in w)) → Going room w₀ w' k d
   unfolding go_on
-  goes_on_lem {w'} {d} l D =
+  goes_on {w'} {d} l D =
       let N : Goes w' c d (step room (program_in w) G.state) = D.follows G.state G.represents in
       record {
         tables = G.tables;

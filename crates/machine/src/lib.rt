@@ -1,4 +1,6 @@
 // One step by the kind of its row, and a run: at most so many steps from the empty heap and main's frame.
+#![tactic(auto)]
+
 ghost use Rattle.std.specs.Prelude.{◌≡◌, ◌+◌, ◌≤◌, ◌<◌, length};
 ghost use Rattle.rules.specs.Limits.{work_bytes, most_statements, heap_objects, heap_fields};
 ghost use Rattle.run_steps.specs.States.{CanStep, Does};
@@ -19,7 +21,7 @@ use tables::Layout;
 const UNKNOWN: u8 = Kind::LAST + 1;
 
 // How a run ends.
-#[derive(Drop)]
+#[derive(Clone, Copy)]
 pub enum Ending {
     Finished,
     StepsTaken,
@@ -27,7 +29,7 @@ pub enum Ending {
 }
 
 // What a run ends with; main's values are in its frame, from byte FRAMES + 8 of the work area on.
-#[derive(Drop)]
+#[derive(Clone, Copy)]
 pub struct Ran {
     pub ending: Ending,
     pub line: u32,

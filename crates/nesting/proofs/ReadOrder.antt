@@ -313,7 +313,7 @@ unfolding Nests rows rows_of waits rows_nest ended stage_number
 lines-nest text p s ls items n (none e) h =
     subst (λ (bs : List Branch). T (rows_nest (ended p) (waits bs) [])) (sym (h (outside p.stage e))) e
 lines-nest text p s ls items n (line {l = l} {items = rest} L R) h =
-    let (o, c) = line-nests _ _ l p h n rest l.kind L.in_place L.within in
+    let (o, c) = line-nests _ _ l p h n rest l.kind L.is_in_place L.within in
     o (lines-nest text _ _ _ rest (suc n) R c)
 
 pub read-nests : (t : List ℕ) (items : List Item) → read_text t ≡ accepted items → T (rows_nest true [] (program items).rows)
@@ -404,9 +404,9 @@ module _ (rs : List Row) where
   lines-blocks text p s ls items n (line {p = q} {s = r} {l = l} {items = rest} L R) h P is B =
       let Γ : Declarations = declarations text in
       let vs : List Variable = seen r l in
-      let (_, c) = line-nests Γ vs l q h n rest l.kind L.in_place L.within in
+      let (_, c) = line-nests Γ vs l q h n rest l.kind L.is_in_place L.within in
       lines-blocks text _ _ _ rest (suc n) R c _ (is ∙ sym (with_row P n _ rest))
-      (line-blocks Γ vs l q h n rest P l.kind is L.in_place (lines-nest text _ _ _ rest (suc n) R c) B)
+      (line-blocks Γ vs l q h n rest P l.kind is L.is_in_place (lines-nest text _ _ _ rest (suc n) R c) B)
 
 pub read-blocks :
     (t : List ℕ) (items : List Item) → read_text t ≡ accepted items →

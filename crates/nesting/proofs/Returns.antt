@@ -130,7 +130,7 @@ lines-last :
 unfolding Lasts rows rows_of returns_last place_after
 lines-last text p s ls items n (none e) = tt
 lines-last text p s ls items n (line {l = l} {items = rest} L R) =
-    lasts _ _ l p n rest l.kind L.in_place (lines-last text _ _ _ rest (suc n) R)
+    lasts _ _ l p n rest l.kind L.is_in_place (lines-last text _ _ _ rest (suc n) R)
 
 pub read-returns :
     (t : List ℕ) (items : List Item) → read_text t ≡ accepted items → (i : ℕ) → T (returns_last false (drop i (program items).rows))

@@ -1,1 +1,2 @@
 // The rows of a read text nest; there is no code here.
+#![tactic(auto)]

@@ -1,4 +1,6 @@
 // What the program prints, written to a lent buffer.
+#![tactic(auto)]
+
 ghost use Rattle.std.specs.Prelude.{◌≡◌, true, [], ◌∷◌, ◌+◌, ◌≤◌, ◌<◌, length, get_or, drop};
 ghost use Rattle.rules.specs.Limits.{work_bytes, results_bytes, values_shown};
 ghost use Rattle.rules.specs.Text.{tab, is_name};
@@ -138,7 +140,7 @@ fn put_variable(out: &mut [u8], at: usize, name: &[u8], v: u32) -> usize
 // VARIABLES
 
 // The locals of a block that are written: how many, and the place after them.
-#[derive(Drop)]
+#[derive(Clone, Copy)]
 pub struct Shown {
     pub count: usize,
     pub end: usize,

@@ -1,4 +1,6 @@
 // Atoms by number: the row of each, and which one a letter begins.
+#![tactic(auto)]
+
 ghost use Rattle.std.specs.Prelude.{◌≡◌};
 ghost use Rattle.read_atoms.specs.Atoms.{row_with, atom_row, begun_by};
 
@@ -6,7 +8,7 @@ use read_grammar::OperandNumber;
 use tables::AtomKind;
 
 // The words as numbers: their bytes to the base 256, the first highest.
-#[derive(Drop)]
+#[derive(Clone, Copy)]
 struct Packed {}
 
 impl Packed {
@@ -22,7 +24,7 @@ impl Packed {
 }
 
 // Their lengths.
-#[derive(Drop)]
+#[derive(Clone, Copy)]
 struct Bytes {}
 
 impl Bytes {
@@ -44,7 +46,7 @@ const SIDES: u32 = OperandNumber::EXPRESSION * (1 + OperandNumber::BASE);
 
 // What the grammar says of an atom: its word as one number and the length of that; its operands as one number; whether it may be the
 // condition of `if` or `loop`.
-#[derive(Drop)]
+#[derive(Clone, Copy)]
 pub struct Row {
     pub word: u64,
     pub bytes: usize,

@@ -1,4 +1,6 @@
 // Bytes of the text: sets of bytes, the search for the first byte of a set, and comparing. Eight bytes at a time: `marks`.
+#![tactic(auto)]
+
 mod marks;
 
 ghost use Rattle.std.specs.Prelude.{◌≡◌, true, false, ◌+◌, ◌-◌, ◌*◌, ◌≤◌, length, get_or, drop};
@@ -13,7 +15,7 @@ pub use marks::{Wide, digit_marks, name_marks, word8};
 // BYTES
 
 // The bytes of a text, by name: "tab, LF, 33 to 126".
-#[derive(Drop)]
+#[derive(Clone, Copy)]
 pub struct Byte {}
 
 impl Byte {
@@ -84,7 +86,7 @@ pub fn is_letter_or_digit(b: u8) -> bool
 }
 
 // What a search stops at.
-#[derive(Drop)]
+#[derive(Clone, Copy)]
 pub enum Set {
     // LF, or a byte that is not allowed
     LineEnd,

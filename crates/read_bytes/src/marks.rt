@@ -6,7 +6,7 @@ use crate::{Byte, Set};
 
 // Eight bytes as one number, and what such a number is tested by, each byte apart. A sum with FROM or PAST tells in bit 7 of a byte, if the
 // byte is below 128, whether it is at least the first of a range, or past the last.
-#[derive(Drop)]
+#[derive(Clone, Copy)]
 pub struct Wide {}
 
 impl Wide {

@@ -16,7 +16,7 @@ use Rattle.read_bytes.specs.Sets.{FirstInSet}
 use Rattle.read_bytes.specs.declared.Set.TheVariants.{LineEnd}
 use Rattle.tables.specs.Layout.{lines_at}
 use Rattle.tables.specs.Stores.{Kept, SameTables}
-use Rattle.tables.proofs.Bytes.{same-trans, kept_trans}
+use Rattle.tables.proofs.BytesRead.{same-trans, kept_trans}
 use Rattle.read_scan.specs.declared.Word.{Word}
 use Rattle.read_fields.specs.Cuts.{more}
 use Rattle.read_grammar.specs.Rows.{kind_numbered}
@@ -119,7 +119,7 @@ module _ {t v : List ℕ} {a : ℕ} {c : Names} {w : List ℕ} (x : Declaring t 
           place = place_after k x.place;
           above = suc x.above;
           walk = walking_on x.walk l f;
-          counted = subst (Counted (place_after k x.place)) (sym y.names) (counted-on x.counted x.walk.within k m.in_place m.room);
+          counted = subst (Counted (place_after k x.place)) (sym y.names) (counted-on x.counted x.walk.within k m.is_in_place m.room);
           declared = ap₂ (λ h i. joined h i ls) y.declared n ∙ (sym (joined-on (declarations_in t w c) c.classes (line_at t a) ls) ∙ z);
           tables = same-trans x.tables y.tables;
           lines = kept_trans lines_at work_bytes v w u x.lines y.lines;

@@ -77,7 +77,7 @@ module _ {t : List ℕ} {a : ℕ} {p : Place} {n : ℕ} (x : Walking t a p n) {e
 
   -- the line's place
   pub record Placed : Type 0 where
-    pub in_place_lem : in_place (line_at t a).kind p ≡ true
+    pub is_in_place : in_place (line_at t a).kind p ≡ true
     pub room : within_limits (place_after (line_at t a).kind p) ≡ true
     pub next : line_first.placed.next ≡ place_after (line_at t a).kind p
 
@@ -87,7 +87,7 @@ module _ {t : List ℕ} {a : ℕ} {p : Place} {n : ℕ} (x : Walking t a p n) {e
       let q = subst (λ k. place_line p k.kind ≡ ok line_first.placed.next) (line-at walking-clean) line_first.taken.place in
       let (i, m) = check-ok (in_place (line_at t a).kind p) malformed q in
       let (u, o) = check-ok (within_limits (place_after (line_at t a).kind p)) limit_passed m in
-      record { in_place_lem = T_true _ i; room = T_true _ u; next = sym (ok-inj o) }
+      record { is_in_place = T_true _ i; room = T_true _ u; next = sym (ok-inj o) }
 
   -- the lines from here on begin with this one
   pub walking-lines : lines_of (drop a t) ≡ line_at t a ∷ lines_of (drop (e + 1) t)

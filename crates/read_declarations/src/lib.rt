@@ -1,4 +1,6 @@
 // The rows of all classes, fields and methods that a text declares; the line reader.
+#![tactic(auto)]
+
 ghost use Rattle.std.specs.Prelude.{◌≡◌, ◌≤◌, ◌<◌, pred, length, drop};
 ghost use Rattle.rules.specs.Limits.{work_bytes, most_bytes, most_classes, most_methods};
 ghost use Rattle.rules.specs.Grammar.{Class, Field, Method};
@@ -45,7 +47,7 @@ fn field_from(text: &[u8], r: usize) -> Span
 
 // THE LINE READER: the lent text with its position in it
 
-#[derive(Drop)]
+#[derive(Clone, Copy)]
 pub struct Reader<'a> {
     pub text: &'a [u8],
     pub at: usize,

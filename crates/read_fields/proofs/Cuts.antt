@@ -60,8 +60,8 @@ record First (t : List ℕ) (n : ℕ) : Type 0 where
   whole : clean (take (suc n) t) ≡ true
   parts : fields (take (suc n) t) ≡ fields t
 
-goes_on_lem : (b : ℕ) → in_set LineEnd b ≡ false → (eqb b 10 ≡ false) × (allowed b ≡ true)
-goes_on_lem b e = let q = or-false (eqb b 10) (not (allowed b)) e in (q.0, not-false _ q.1)
+goes_on : (b : ℕ) → in_set LineEnd b ≡ false → (eqb b 10 ≡ false) × (allowed b ≡ true)
+goes_on b e = let q = or-false (eqb b 10) (not (allowed b)) e in (q.0, not-false _ q.1)
 
 clean-first : (t : List ℕ) (n : ℕ) → up_to (in_set LineEnd) t ≡ n → n < length t → get_or t n 0 ≡ 10 → First t n
 unfolding lines clean fields all allowed onto
@@ -70,7 +70,7 @@ clean-first (b ∷ t) zero e h g = rw g (record { cut = refl; whole = refl; part
 clean-first (b ∷ []) (suc n) e h g = absurd (omega arith)
 clean-first (b ∷ c ∷ t) (suc n) e h g =
     let q = up_to-suc (in_set LineEnd) b (c ∷ t) n e in
-    let o = goes_on_lem b q.0 in
+    let o = goes_on b q.0 in
     let i = clean-first (c ∷ t) n q.1 (omega arith) g in
     record {
       cut = rw (o.0, i.cut);
@@ -102,11 +102,11 @@ bad-first (b ∷ t) zero e h g =
     let x = bad-onto b (lines t) (not-true _ (rw o at (up_to-zero (in_set LineEnd) b t e))) in
     record { line = x.line; rest = x.rest; cut = rw o x.cut; bad = x.bad }
 bad-first (b ∷ []) (suc n) e h g =
-    let o = goes_on_lem b (up_to-suc (in_set LineEnd) b [] n e).0 in
+    let o = goes_on b (up_to-suc (in_set LineEnd) b [] n e).0 in
     record { line = b ∷ []; rest = []; cut = rw o.0; bad = clean-one b o.0 }
 bad-first (b ∷ c ∷ t) (suc n) e h g =
     let q = up_to-suc (in_set LineEnd) b (c ∷ t) n e in
-    let o = goes_on_lem b q.0 in
+    let o = goes_on b q.0 in
     let x = bad-first (c ∷ t) n q.1 (omega arith) g in
     record { line = b ∷ x.line; rest = x.rest; cut = rw (o.0, x.cut); bad = longer-bad b x.line o.0 x.bad }
 

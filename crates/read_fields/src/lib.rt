@@ -1,4 +1,6 @@
 // The fields of a line, each read once: operands, atoms, what may follow them.
+#![tactic(auto)]
+
 ghost use Rattle.std.specs.Prelude.{◌≡◌, ◌+◌, ◌≤◌, eqb, length, get_or};
 ghost use Rattle.rules.specs.Text.{tab, is_name, is_expr, is_formula};
 ghost use Rattle.rules.specs.Grammar.{IsKindNumber};
@@ -62,7 +64,7 @@ fn next_operand(operand: u32, t: &[u8], r: usize) -> usize
 }
 
 // Where fields that have their form end.
-#[derive(Drop)]
+#[derive(Clone, Copy)]
 pub enum Fields {
     Upto(usize),
     Bad,
@@ -100,7 +102,7 @@ fn no_fields(t: &[u8], r: usize) -> Fields
 // ATOMS
 
 // How an atom begins: the number of the operands after its word, or 0 where the word is none of an atom; and the word's end.
-#[derive(Drop)]
+#[derive(Clone, Copy)]
 struct Head {
     pub operands: u32,
     pub end: usize,

@@ -1,4 +1,6 @@
 // The grammar by numbers: the row of each kind of line. Where a line may stand, and the limits of the text: `places`.
+#![tactic(auto)]
+
 mod places;
 
 ghost use Rattle.std.specs.Prelude.{◌≡◌};
@@ -11,7 +13,7 @@ use rules::Kind;
 // THE ROW OF A KIND
 
 // The operands, by their numbers; several as one number to the base 16, the first lowest.
-#[derive(Drop)]
+#[derive(Clone, Copy)]
 pub struct OperandNumber {}
 
 impl OperandNumber {
@@ -41,7 +43,7 @@ impl OperandNumber {
 }
 
 // What follows the operands, by its number; any other is a condition and then a formula.
-#[derive(Drop)]
+#[derive(Clone, Copy)]
 pub struct TailNumber {}
 
 impl TailNumber {
@@ -53,7 +55,7 @@ impl TailNumber {
 }
 
 // The stages that no row of a kind leads to, by their numbers.
-#[derive(Drop)]
+#[derive(Clone, Copy)]
 pub struct Stage {}
 
 impl Stage {
@@ -66,7 +68,7 @@ impl Stage {
 
 // What the grammar says of a kind of line: its operands as one number; what follows them; the stages at which it may stand; and the stage
 // after it.
-#[derive(Drop)]
+#[derive(Clone, Copy)]
 pub struct Row {
     pub operands: u32,
     pub tail: u32,
@@ -139,7 +141,7 @@ pub fn row_of(kind: u8) -> Row
 
 // Where a line stands: the stage by its number, whether `main` is above, the open branches and loops as one number (`places::Open`), and
 // what the lines above have used of each limit.
-#[derive(Drop)]
+#[derive(Clone, Copy)]
 pub struct Place {
     pub stage: u32,
     pub main: bool,

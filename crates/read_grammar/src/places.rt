@@ -10,7 +10,7 @@ use crate::{Place, Stage};
 use rules::{Kind, Machine};
 
 // The open branches and loops as one number to the base 4, the innermost lowest: a branch before its `else`, after it, or a loop.
-#[derive(Drop)]
+#[derive(Clone, Copy)]
 struct Open {}
 
 impl Open {

@@ -1,4 +1,6 @@
 // Classes, variables, fields and methods looked up by name; whether a name is new.
+#![tactic(auto)]
+
 mod members;
 
 ghost use Rattle.std.specs.Prelude.{◌≡◌, map, ◌+◌, ◌≤◌, length};

@@ -12,7 +12,7 @@ use lib.Seq.{get_or-set_same, get_or-set_other}
 use Rattle.rules.specs.Limits.{work_bytes}
 use Rattle.tables.specs.Decode.{byte_at, half_at}
 use Rattle.tables.specs.Stores.{put_byte, put_half, Kept, SameTables}
-use Rattle.tables.proofs.Bytes.{Outside, put-half-length, put-half-byte, half-put, half-kept}
+use Rattle.tables.proofs.BytesRead.{Outside, put-half-length, put-half-byte, half-put, half-kept}
 use Rattle.read_names.specs.declared.Span.{Span}
 use Rattle.read_names.specs.declared.Row.{Row}
 use Rattle.tables.specs.Decode.{run}

@@ -1,4 +1,6 @@
 // Names as rows of the work area: a place in the text, types, an owner and a key of one byte; the search for a name.
+#![tactic(auto)]
+
 ghost use Rattle.std.specs.Prelude.{◌≡◌, true, false, ◌||◌, eqb, ◌+◌, ◌*◌, ◌≤◌, ◌<◌, length};
 ghost use Rattle.rules.specs.Base.{index};
 ghost use Rattle.rules.specs.Limits.{work_bytes};
@@ -10,14 +12,14 @@ use rules::Machine;
 use tables::Layout;
 
 // A name by its place in the text.
-#[derive(Drop)]
+#[derive(Clone, Copy)]
 pub struct Span {
     pub start: usize,
     pub len: usize,
 }
 
 // What is declared: the owner's number, the name, the type that it gives, and the type that it takes.
-#[derive(Drop)]
+#[derive(Clone, Copy)]
 pub struct Row {
     pub owner: usize,
     pub name: Span,

@@ -1,4 +1,6 @@
 // Numbers: decimal, 32 bits signed, read once.
+#![tactic(auto)]
+
 ghost use Rattle.std.specs.Prelude.{◌≡◌, true, false, ◌&&◌, ◌+◌, ◌-◌, ◌≤◌, length, get_or, take, drop};
 ghost use Rattle.rules.specs.Base.{all};
 ghost use Rattle.rules.specs.Syntax.{sign};
@@ -62,7 +64,7 @@ fn eight_digits(l: &[u8], i: usize) -> u64
 }
 
 // The number that some digits write, and where they end.
-#[derive(Drop)]
+#[derive(Clone, Copy)]
 struct Digits {
     value: u64,
     end: usize,

@@ -28,7 +28,7 @@ use Rattle.read_bytes.proofs.Search.{true-false, up_to-within, up_to-passed}
 use Rattle.tables.specs.Layout.{lines_at}
 use Rattle.tables.specs.Decode.{byte_at, half_at}
 use Rattle.tables.specs.Stores.{put_byte, put_half, Kept}
-use Rattle.tables.proofs.Bytes.{put-half-length, put-half-byte, half-put, half-kept}
+use Rattle.tables.proofs.BytesRead.{put-half-length, put-half-byte, half-put, half-kept}
 use Rattle.read_scan.specs.declared.Word.{Word}
 use Rattle.read_fields.specs.Cuts.{part}
 use Rattle.read_grammar.specs.Rows.{when_true, formed_kind}

@@ -1,4 +1,6 @@
 // Pass 1: lines cut, each tested for form, place and limits (3, 4, 5, 8) and noted in a table of lines.
+#![tactic(auto)]
+
 ghost use Rattle.std.specs.Prelude.{◌≡◌, true, ◌+◌, ◌*◌, ◌≤◌, ◌<◌, length};
 ghost use Rattle.rules.specs.Limits.{most_bytes, work_bytes};
 ghost use Rattle.rules.specs.Grammar.{last_kind, IsKindNumber};
@@ -14,7 +16,7 @@ use read_grammar::{Place, Stage};
 use tables::Layout;
 
 // The word that a line begins with: the number of its kind, or 0, and the word's end.
-#[derive(Drop)]
+#[derive(Clone, Copy)]
 pub struct Word {
     pub kind: u8,
     pub end: usize,
@@ -42,7 +44,7 @@ fn line_fields(t: &[u8], w: Word) -> Fields
 }
 
 // Why a text is refused in pass 1.
-#[derive(Drop)]
+#[derive(Clone, Copy)]
 pub enum Refusal {
     BadByte,
     Malformed,
@@ -51,7 +53,7 @@ pub enum Refusal {
 }
 
 // The place after a line, or why the line is refused.
-#[derive(Drop)]
+#[derive(Clone, Copy)]
 pub enum Placing {
     Next(Place),
     Refused(Refusal),
@@ -113,7 +115,7 @@ pub fn line_word(work: &[u8], i: usize) -> Word
 // THE PASS
 
 // The place after a line, and where its LF is; or why the line is refused.
-#[derive(Drop)]
+#[derive(Clone, Copy)]
 enum ScannedLine {
     Next(usize, Place),
     Refused(Refusal),
@@ -163,7 +165,7 @@ fn scan_line(t: &[u8], work: &mut [u8], at: usize, n: usize, p: Place) -> Scanne
 }
 
 // A text that is taken, with the count of its lines; or why it is refused, and at which line.
-#[derive(Drop)]
+#[derive(Clone, Copy)]
 pub enum Scanned {
     Taken(usize),
     Refused(Refusal, usize),

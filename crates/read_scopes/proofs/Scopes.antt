@@ -14,7 +14,7 @@ use Rattle.rules.specs.Syntax.{this_variable, parameter, first_local, result_var
 use Rattle.rules.specs.Scope.{Variable, method_block, with_local}
 use Rattle.tables.specs.Layout.{most_names, names_at}
 use Rattle.tables.specs.Stores.{Kept, SameTables}
-use Rattle.tables.proofs.Bytes.{same-trans}
+use Rattle.tables.proofs.BytesRead.{same-trans}
 use Rattle.read_names.specs.declared.Span.{Span}
 use Rattle.read_names.specs.declared.Row.{Row}
 use Rattle.read_scopes.specs.declared.Names.{Names}
@@ -186,11 +186,11 @@ module _ (t w : List ℕ) (v : ℕ) (s g : Span) (size : length w ≡ work_bytes
   type_put = ap (λ e. e.gives) row_is
 
 -- one variable more at the end
-one_more_lem :
+one_more :
     (m : Bool) (x : Variable) (a b : List Variable) {h h' : Variable} {a' b' : List Variable} → h' ≡ h → a' ≡ a ++ (x ∷ []) → b' ≡ b ++ (x ∷ []) →
     cond m (h' ∷ cond m a' b') (cond m a' b') ≡ cond m (h ∷ cond m a b) (cond m a b) ++ (x ∷ [])
-one_more_lem true x a b p q r = ap₂ ◌∷◌ p q
-one_more_lem false x a b p q r = r
+one_more true x a b p q r = ap₂ ◌∷◌ p q
+one_more false x a b p q r = r
 
 -- one local more
 module _ (t w : List ℕ) (c : Names) (s g : Span) (size : length w ≡ work_bytes) (l : c.locals < most_locals) (fs : SpanFits s) (fg : SpanFits g) where
@@ -216,7 +216,7 @@ module _ (t w : List ℕ) (c : Names) (s g : Span) (size : length w ≡ work_byt
       let result = type result_variable (inr (omega arith)) in
       let a = ap (λ k. run (variable_at t grown) parameter (suc k)) n ∙ more-own parameter (suc c.locals) (omega arith) in
       let b = ap (λ k. run (variable_at t grown) first_local k) n ∙ more-own first_local c.locals refl in
-      let own = one_more_lem c.method _ _ _ (λ j. record { name = bytes "this"; number = this_variable; type = this j }) a b in
+      let own = one_more c.method _ _ _ (λ j. record { name = bytes "this"; number = this_variable; type = this j }) a b in
       λ j. record {
         variables = own j;
         result = cond c.method (record { name = bytes "result"; number = result_variable; type = result j } ∷ []) [];

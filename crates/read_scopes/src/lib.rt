@@ -1,4 +1,6 @@
 // What the rows of names mean: declarations and the variables of a block; a name added.
+#![tactic(auto)]
+
 ghost use Rattle.std.specs.Prelude.{◌≡◌, ◌+◌, ◌<◌, length};
 ghost use Rattle.rules.specs.Limits.{work_bytes, most_classes, most_methods, most_locals};
 ghost use Rattle.rules.specs.Syntax.{first_local};
@@ -10,7 +12,7 @@ use read_names::{Row, Span};
 
 // How many rows there are of what the text declares, and what a line may name of its block: `this` and the parameter of a method,
 // locals, `result`. The two tests are last: a record with less padding is copied faster.
-#[derive(Drop)]
+#[derive(Clone, Copy)]
 pub struct Names {
     pub classes: usize,
     pub fields: usize,
@@ -28,14 +30,14 @@ pub const PARAMETER: usize = 1;
 pub const FIRST_LOCAL: usize = 2;
 
 // Rows of one kind that follow each other.
-#[derive(Drop)]
+#[derive(Clone, Copy)]
 pub struct Range {
     pub first: usize,
     pub count: usize,
 }
 
 // What the lines above declare: classes, and fields and methods of the present class.
-#[derive(Drop)]
+#[derive(Clone, Copy)]
 pub struct Above {
     pub classes: usize,
     pub fields: Range,

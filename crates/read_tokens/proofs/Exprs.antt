@@ -314,14 +314,14 @@ module _ (l : Name) (at d : ℕ) (h : at ≤ length l) (is : d ≡ at + up_to ot
     whole-at t = whole-field (drop at l) n (ended_at l at d h is t) ∙ (sym begins-at ∙ b)
 
     module _ (f : ends_field l d ≡ false) where
-      goes_on_lem : up_to other (drop at l) < field_length (drop at l)
+      goes_on : up_to other (drop at l) < field_length (drop at l)
       unfolding field_length
-      goes_on_lem =
+      goes_on =
           let r = or-false (leb (length l) d) (in_set FieldEnd (get_or l d 0)) f in
           smaller-later other (in_set FieldEnd) end-other (drop at l) (omega (arith, length-drop at l, is, leb-false (length l) d r.0)) (rw (← byte-there l at d h is) r.1)
 
       pub sign_at : (get_or l d 0 ≡ 46 → ⊥) → is_expr (first_field (drop at l)) ≡ false
-      sign_at s = sign-field (drop at l) n goes_on_lem (λ z. s (byte-there l at d h is ∙ z))
+      sign_at s = sign-field (drop at l) n goes_on (λ z. s (byte-there l at d h is ∙ z))
 
       -- e: the end of the field after the full stop
       module _ (s : get_or l d 0 ≡ 46) (e : ℕ) (ends : e ≡ d + 1 + up_to (in_set FieldEnd) (drop (d + 1) l)) where
@@ -330,12 +330,12 @@ module _ (l : Name) (at d : ℕ) (h : at ≤ length l) (is : d ≡ at + up_to ot
 
         pub path-at : is_expr (first_field (drop at l)) ≡ is_name (take (e - (d + 1)) (drop (d + 1) l))
         path-at =
-            path-field (drop at l) n goes_on_lem (sym (byte-there l at d h is) ∙ s)
-            ∙ rw (sym begins-at ∙ b, after-field (drop at l) n goes_on_lem, after-at) (field_cut is_name l (d + 1) e ends)
+            path-field (drop at l) n goes_on (sym (byte-there l at d h is) ∙ s)
+            ∙ rw (sym begins-at ∙ b, after-field (drop at l) n goes_on, after-at) (field_cut is_name l (d + 1) e ends)
 
         pub path-ends : e ≡ at + field_length (drop at l)
         unfolding field_length
-        path-ends = omega (arith, is, ends, after-length (drop at l) n goes_on_lem, ap field_length after-at)
+        path-ends = omega (arith, is, ends, after-length (drop at l) n goes_on, ap field_length after-at)
 
 -- NO BYTES
 pub no_name : is_name [] ≡ false

@@ -1,4 +1,6 @@
 // Names and expressions as fields of a line.
+#![tactic(auto)]
+
 ghost use Rattle.std.specs.Prelude.{◌≡◌, true, false, ◌||◌, eqb, ◌+◌, ◌-◌, ◌≤◌, length, drop};
 ghost use Rattle.rules.specs.Text.{minus, digit, is_name, numeral, is_expr};
 ghost use Rattle.read_bytes.specs.Sets.{FirstInSet};
@@ -64,7 +66,7 @@ pub fn name_end(l: &[u8], at: usize) -> usize
 // EXPRESSIONS
 
 // An expression of a field: a variable is the whole field, a path has its full stop at a place of it.
-#[derive(Drop)]
+#[derive(Clone, Copy)]
 pub enum Expr {
     Num(u32),
     Null,

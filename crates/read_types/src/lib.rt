@@ -1,4 +1,6 @@
 // Expressions looked up, with their numbers, type and verdict; types that agree.
+#![tactic(auto)]
+
 ghost use Rattle.std.specs.Prelude.{◌≡◌, true, false, ◌+◌, ◌≤◌, ◌<◌, length};
 ghost use Rattle.std.proofs.Math.Option.{some};
 ghost use Rattle.rules.specs.Base.{is};
@@ -19,7 +21,7 @@ use read_scopes::Names;
 use tables::Expr;
 
 // The type of an expression: null's, a number's, or that of a declaration, by its name.
-#[derive(Drop)]
+#[derive(Clone, Copy)]
 pub enum ExprType {
     Null,
     Int,
@@ -27,7 +29,7 @@ pub enum ExprType {
 }
 
 // Why names and types refuse a line: numbers 6, 7 and 9.
-#[derive(Drop)]
+#[derive(Clone, Copy)]
 pub enum Fault {
     Undeclared,
     WrongType,
@@ -35,14 +37,14 @@ pub enum Fault {
 }
 
 // What the tests of these numbers say of a line or of a part of it: of two faults the lower.
-#[derive(Drop)]
+#[derive(Clone, Copy)]
 pub enum Verdict {
     Good,
     Bad(Fault),
 }
 
 // What looking up x.f gives: the numbers of x and of the name f, the type of the field, and whether a line may name it.
-#[derive(Drop)]
+#[derive(Clone, Copy)]
 pub struct Member {
     pub variable: usize,
     pub number: usize,
@@ -51,7 +53,7 @@ pub struct Member {
 }
 
 // What looking up an expression gives: the expression by its numbers, its type, and whether a line may name it.
-#[derive(Drop)]
+#[derive(Clone, Copy)]
 pub struct Lookup {
     pub expr: Expr,
     pub is: ExprType,

@@ -1,4 +1,6 @@
 // Words by number: those that begin lines, and the reserved ones.
+#![tactic(auto)]
+
 ghost use Rattle.std.specs.Prelude.{◌≡◌, false, ◌+◌, ◌≤◌, length};
 ghost use Rattle.rules.specs.Base.{is};
 ghost use Rattle.rules.specs.Text.{reserved};
@@ -21,7 +23,7 @@ const THIS: u8 = NULL + 1;
 const RESULT: u8 = THIS + 1;
 
 // The words as numbers: their bytes to the base 256, the first highest.
-#[derive(Drop)]
+#[derive(Clone, Copy)]
 struct Packed {}
 
 impl Packed {

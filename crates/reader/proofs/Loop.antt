@@ -181,7 +181,7 @@ module _ {t : List ℕ} {a : ℕ} {p : Pass} {w : List ℕ} (x : Resolving t a p
     pub resolving-room : LineRoom t w p (line_at t a)
     resolving-room =
         let m = walking-placed x.walk l f in
-        at_room stand-here m.in_place m.room (lines (drop (e + 1) t)) (suc p.line) (walking_on x.walk l f).rest (omega (arith, x.early, l, size))
+        at_room stand-here m.is_in_place m.room (lines (drop (e + 1) t)) (suc p.line) (walking_on x.walk l f).rest (omega (arith, x.early, l, size))
 
     -- what is left, by its first line
     resolved-here :
@@ -215,7 +215,7 @@ module _ {t : List ℕ} {a : ℕ} {p : Pass} {w : List ℕ} (x : Resolving t a p
         record {
           place = place_after (line_at t a).kind x.place;
           walk = subst (Walking t (e + 1) (place_after (line_at t a).kind x.place)) (sym n) (walking_on x.walk l f);
-          stand = at_on stand-here m.in_place m.room z;
+          stand = at_on stand-here m.is_in_place m.room z;
           whole = z.size ∙ x.whole;
           early = omega (arith, n, x.early, (walking-clean x.walk l f).low);
           declared = z.declared ∙ x.declared;

@@ -1,4 +1,6 @@
 // Any bytes to tables, or to the number and line of rows 2 to 10: pass 1, the declarations, and pass 2 line by line.
+#![tactic(auto)]
+
 ghost use Rattle.std.specs.Prelude.{◌≡◌, true, false, ◌+◌, ◌-◌, ◌≤◌, ◌<◌, length};
 ghost use Rattle.rules.specs.Limits.{work_bytes, most_bytes};
 ghost use Rattle.rules.specs.Grammar.{IsKindNumber};
@@ -20,7 +22,7 @@ use resolve_pass::{Pass, TriedLine};
 use rules::{Kind, Machine};
 
 // Why a text is refused.
-#[derive(Drop)]
+#[derive(Clone, Copy)]
 pub enum Refusal {
     TextTooLong,
     BadByte,
@@ -121,7 +123,7 @@ fn take_line(work: &[u8], kind: u8, p: Pass, q: Pass) -> Pass
 }
 
 // What a line is: in the tables, or refused.
-#[derive(Drop)]
+#[derive(Clone, Copy)]
 pub enum Step {
     On(Pass),
     Refused(Refusal),
@@ -152,7 +154,7 @@ fn read_line(text: &[u8], work: &mut [u8], w: Word, p: Pass) -> Step
 // ALL LINES
 
 // All lines are in the tables; or why one is refused, and which.
-#[derive(Drop)]
+#[derive(Clone, Copy)]
 pub enum Resolved {
     Done(Pass),
     Refused(Refusal, usize),
@@ -204,7 +206,7 @@ fn read_lines(text: &[u8], work: &mut [u8], names: Names, n: usize) -> Resolved
 // THE TEXT
 
 // A text that is read, with the first line that number 10 refuses, or 0; or why it is refused, and at which line.
-#[derive(Drop)]
+#[derive(Clone, Copy)]
 pub enum Reading {
     Read(usize),
     Refused(Refusal, usize),

@@ -1,4 +1,6 @@
 // Main's bound and the most frames on a route of calls, or why there are none: what `bound_program` says of the tables' program.
+#![tactic(auto)]
+
 ghost use Rattle.std.specs.Prelude.{◌≡◌};
 ghost use Rattle.rules.specs.Bounds.{bound_program};
 ghost use Rattle.tables.specs.Decode.{program_in};
@@ -8,7 +10,7 @@ ghost use Rattle.reckoner.specs.Reckoned.{verdict_of};
 use bound_lines::Place;
 use bound_walk::Answer;
 
-#[derive(Drop)]
+#[derive(Clone, Copy)]
 pub enum Outcome {
     // the bound and the frames
     Given(u32, u32),

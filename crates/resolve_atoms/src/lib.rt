@@ -1,4 +1,6 @@
 // The atoms of a line looked up, tested and written.
+#![tactic(auto)]
+
 ghost use Rattle.std.specs.Prelude.{◌≡◌, true, ◌<◌};
 ghost use Rattle.rules.specs.Syntax.{cmp};
 ghost use Rattle.rules.specs.Text.{is_expr, expr_of, is_atom, atom_of};
@@ -13,7 +15,7 @@ use read_types::{Fault, Member, Verdict};
 use tables::{AtomKind, Expr};
 
 // An atom as a row has it: its kind (`AtomKind`) and its sides.
-#[derive(Drop)]
+#[derive(Clone, Copy)]
 pub struct AtomRow {
     pub kind: usize,
     pub left: Expr,
@@ -21,21 +23,21 @@ pub struct AtomRow {
 }
 
 // An atom tried: its row, or why it is refused.
-#[derive(Drop)]
+#[derive(Clone, Copy)]
 pub enum TriedAtom {
     Row(AtomRow),
     Bad(Fault),
 }
 
 // An atom of a line tried: where it ends.
-#[derive(Drop)]
+#[derive(Clone, Copy)]
 pub struct NextAtom {
     pub end: usize,
     pub verdict: Verdict,
 }
 
 // What is written: the number after it; nothing of it counts if it is refused.
-#[derive(Drop)]
+#[derive(Clone, Copy)]
 pub enum Put {
     Done(usize),
     Bad(Fault),

@@ -1,4 +1,6 @@
 // Statement lines, `requires` and `ensures` of pass 2.
+#![tactic(auto)]
+
 ghost use Rattle.std.specs.Prelude.{◌≡◌, not, ◌&&◌};
 ghost use Rattle.rules.specs.Grammar.{IsKindNumber, IsStatementNumber};
 ghost use Rattle.read_grammar.specs.Rows.{kind_numbered};

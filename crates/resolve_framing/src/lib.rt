@@ -1,4 +1,6 @@
 // Number 10 over the atoms of a line.
+#![tactic(auto)]
+
 ghost use Rattle.std.specs.Prelude.{◌≡◌, ◌&&◌, [], ◌∷◌, ◌++◌, ◌+◌, ◌-◌, ◌≤◌, ◌<◌, length};
 ghost use Rattle.rules.specs.Grammar.{loop_kind};
 ghost use Rattle.rules.specs.Limits.{work_bytes};

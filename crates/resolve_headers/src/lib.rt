@@ -1,4 +1,6 @@
 // `class`, `field`, `method`, `main` and `var` lines of pass 2.
+#![tactic(auto)]
+
 ghost use Rattle.std.specs.Prelude.{◌≡◌, true, ◌≤◌, ◌<◌, length};
 ghost use Rattle.rules.specs.Limits.{most_bytes};
 ghost use Rattle.rules.specs.Grammar.{Class, Field, Method, Var, class_kind, field_kind, method_kind, var_kind};

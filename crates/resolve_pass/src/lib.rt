@@ -1,10 +1,12 @@
 // How far pass 2 is.
+#![tactic(auto)]
+
 use read_scopes::{Above, Names};
 use read_types::Fault;
 
 // How far pass 2 is: what a line may name, what the lines above declare, the rows and atoms that are written, main's first row, how
 // many lines are above, and the first of them that number 10 refuses, or 0.
-#[derive(Drop)]
+#[derive(Clone, Copy)]
 pub struct Pass {
     pub names: Names,
     pub above: Above,
@@ -16,7 +18,7 @@ pub struct Pass {
 }
 
 // What trying a line gives: it is in the tables, or it is refused.
-#[derive(Drop)]
+#[derive(Clone, Copy)]
 pub enum TriedLine {
     On(Pass),
     Bad(Fault),

@@ -43,6 +43,7 @@ module _ (h : Heap) (F : Frame) (x f : ℕ) where
 frame-shares : (F : Frame) (Fs : List Frame) (p : Location) → Member F Fs → halves F.held p ≤ shares Fs p
 frame-shares F (G ∷ Fs) p at_head = omega (arith, shares-cons F Fs p)
 frame-shares F (G ∷ Fs) p (further i) = omega (arith, shares-cons G Fs p, frame-shares F Fs p i)
+frame-shares F [] p x' = elim x' [ ]
 
 -- what a frame holds twice as often as a walk passes it is a list of its own
 own-list :

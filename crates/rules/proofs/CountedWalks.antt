@@ -102,7 +102,7 @@ module _ (next : ℕ → ℕ) (may : ℕ → Bool) where
   goes-more zero (ended z) l = absurd (omega arith)
   goes-more (suc m) (ended z) l = ended z
   goes-more zero (went z e G) l = absurd (omega arith)
-  goes-more (suc m) (went z e G) l = went z e (goes-more m G (omega arith))
+  goes-more (suc m) (went {n = n} z e G) l = went z e (goes-more {n = n} m G (omega arith))
 
   pub goes-may : {n o : ℕ} {os : List ℕ} → Goes n o os → (x : ℕ) → Member x os → (may x ≡ true) × (x ≡ 0 → ⊥)
   goes-may (ended z) x i = elim i [ ]

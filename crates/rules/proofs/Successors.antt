@@ -101,6 +101,7 @@ pub listed-fact :
     (f : Fact) × Member f fs × (f.rel ≡ eq) × (f.left ≡ a) × (f.right ≡ b)
 listed-fact (f ∷ fs) (here r p q) = (f, at_head, r, p, q)
 listed-fact (f ∷ fs) (there l) = let (g, i, r, p, q) = listed-fact fs l in (g, further i, r, p, q)
+listed-fact {a = a} {b = b} [] x' = elim x' [ ]
 
 pub fact-listed :
     {a b : Term} (fs : List Fact) (f : Fact) → Member f fs → f.rel ≡ eq → f.left ≡ a → f.right ≡ b → Listed a b fs
@@ -114,11 +115,13 @@ pub listed-left : {a b : Term} (fs : List Fact) → Listed a b fs → Member a (
 unfolding terms_of
 listed-left (f ∷ fs) (here r p q) = is-head (sym p)
 listed-left (f ∷ fs) (there l) = further (further (listed-left fs l))
+listed-left {a = a} {b = b} [] x' = elim x' [ ]
 
 pub listed-right : {a b : Term} (fs : List Fact) → Listed a b fs → Member b (terms_of fs)
 unfolding terms_of
 listed-right (f ∷ fs) (here r p q) = further (is-head (sym q))
 listed-right (f ∷ fs) (there l) = further (further (listed-right fs l))
+listed-right {a = a} {b = b} [] x' = elim x' [ ]
 
 -- THE LAW, over what becomes of terms
 module _ (fs : List Fact) (g : Renaming) where

@@ -1,6 +1,6 @@
 // The numbers of document 01's table and document 02's, as the calls return them.
 
-#[derive(Drop)]
+#[derive(Clone, Copy)]
 pub struct Number {}
 
 impl Number {

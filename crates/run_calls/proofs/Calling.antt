@@ -20,7 +20,7 @@ use Rattle.rules.proofs.Footprints.{footprint-held}
 use Rattle.tables.specs.Layout.{frame_variables, holders_at, objects_at, frames_at}
 use Rattle.tables.specs.Decode.{byte_at, half_at, word_at, y_at, z_at, member_at, method_place, atoms_from, atom_count, kind_at, method_count, method_at, requires_at, ensures_at, first_row_at}
 use Rattle.tables.specs.Stores.{SameTables}
-use Rattle.tables.proofs.Bytes.{same-trans}
+use Rattle.tables.proofs.BytesRead.{same-trans}
 use Rattle.tables.proofs.Decoding.{tables-same, rows-count-same, kind-same, methods-count-same, first-row-same, ensures-same, requires-same}
 use Rattle.run_heap.specs.declared.Fault.{Fault}
 use Rattle.run_steps.specs.declared.Turn.{Turn}

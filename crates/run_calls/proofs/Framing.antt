@@ -10,7 +10,7 @@ use Rattle.rules.specs.Machine.{entry_values}
 use Rattle.tables.specs.Layout.{frame_variables}
 use Rattle.tables.specs.Decode.{byte_at, half_at, word_at}
 use Rattle.tables.specs.Stores.{put_half, put_word}
-use Rattle.tables.proofs.Bytes.{word-put, half-put, word_kept, half-kept, put-word-length}
+use Rattle.tables.proofs.BytesRead.{word-put, half-put, word_kept, half-kept, put-word-length}
 use Rattle.run_heap.specs.Views.{variable_at, fill, frame_put, frame_holder, frame_row, frame_method}
 use Rattle.run_footprint.proofs.Regions.{Only, only-trans, only-wide, only-word, only-half, only-byte, only-fill, only_kept, fill-word, variable-kept}
 use Rattle.run_steps.proofs.Changes.{other-variable, this_variable}
@@ -34,9 +34,9 @@ module _ (w : List ℕ) (a b holder row method o p : ℕ) (next : b ≡ a + 72) 
   all : List ℕ
   all = set fourth (b + frame_method) method
 
-  is_framed_lem : frame_put w a b holder row method o p ≡ all
+  is_framed : frame_put w a b holder row method o p ≡ all
   unfolding frame_put all fourth third second first filled
-  is_framed_lem = refl
+  is_framed = refl
 
   to-second : Only b (b + frame_holder) w second
   unfolding second first filled
@@ -59,14 +59,14 @@ module _ (w : List ℕ) (a b holder row method o p : ℕ) (next : b ≡ a + 72) 
 
   pub framed-only : Only (a + frame_holder) (b + 67) w (frame_put w a b holder row method o p)
   framed-only =
-      rw is_framed_lem
+      rw is_framed
       (only-trans (only-wide to-second (omega arith) (omega arith))
       (only-trans (only-wide to-third (omega arith) (omega arith))
       (only-trans (only-wide to-fourth (omega arith) (omega arith)) (only-wide to-all (omega arith) (omega arith)))))
 
   pub framed-before : byte_at (frame_put w a b holder row method o p) (a + frame_method) ≡ byte_at w (a + frame_method)
   framed-before =
-      rw is_framed_lem
+      rw is_framed
       (to-all.bytes (a + frame_method) (inl (omega arith))
       ∙ (to-fourth.bytes (a + frame_method) (inr (omega arith))
       ∙ (to-third.bytes (a + frame_method) (inr (omega arith)) ∙ to-second.bytes (a + frame_method) (inl (omega arith)))))
@@ -74,14 +74,14 @@ module _ (w : List ℕ) (a b holder row method o p : ℕ) (next : b ≡ a + 72) 
   pub framed-method : byte_at (frame_put w a b holder row method o p) (b + frame_method) ≡ method
   unfolding all
   framed-method =
-      rw is_framed_lem
+      rw is_framed
       (get_or-set_same fourth (b + frame_method) method 0
       (omega (arith, to-fourth.size, to-third.size, to-second.size)))
 
   pub framed-holder : holder < 4294967296 → word_at (frame_put w a b holder row method o p) (a + frame_holder) ≡ holder
   unfolding third
   framed-holder l =
-      rw is_framed_lem
+      rw is_framed
       (word_kept (a + frame_holder) (a + frame_row) fourth all (only_kept to-all (a + frame_holder) (a + frame_row) (inl (omega arith))) (a + frame_holder) (omega arith) (omega arith)
       ∙ (word_kept (a + frame_holder) (a + frame_row) third fourth (only_kept to-fourth (a + frame_holder) (a + frame_row) (inl (omega arith))) (a + frame_holder) (omega arith) (omega arith)
       ∙ word-put second (a + frame_holder) holder (omega (arith, to-second.size)) l))
@@ -89,7 +89,7 @@ module _ (w : List ℕ) (a b holder row method o p : ℕ) (next : b ≡ a + 72) 
   pub framed-row : row < 65536 → half_at (frame_put w a b holder row method o p) (a + frame_row) ≡ row
   unfolding fourth
   framed-row l =
-      rw is_framed_lem
+      rw is_framed
       (half-kept (a + frame_row) (a + frame_method) fourth all (only_kept to-all (a + frame_row) (a + frame_method) (inl (omega arith))) (a + frame_row) (omega arith) (omega arith)
       ∙ half-put third (a + frame_row) row (omega (arith, to-third.size, to-second.size)) l)
 
@@ -125,4 +125,4 @@ module _ (w : List ℕ) (a b holder row method o p : ℕ) (next : b ≡ a + 72) 
         ∙ (other-variable filled b 0 (suc (suc x)) o (λ e. omega arith) ∙ zeros (suc (suc x)) l)))
 
     pub framed-values : (x : ℕ) → x < frame_variables → get_or (entry_values o p) x 0 ≡ variable_at (frame_put w a b holder row method o p) b x
-    framed-values x l = rw is_framed_lem (in-second x l ∙ sym (kept-variable x l))
+    framed-values x l = rw is_framed (in-second x l ∙ sym (kept-variable x l))

@@ -25,7 +25,7 @@ use Rattle.tables.specs.Decode.{run, kind_at, x_at, member_at, class_count, clas
 use Rattle.tables.specs.Tables.{ClassFits, place_at}
 use Rattle.tables.specs.Stores.{SameTables, put_word}
 use Rattle.tables.proofs.Rows.{class-length}
-use Rattle.tables.proofs.Bytes.{same-trans}
+use Rattle.tables.proofs.BytesRead.{same-trans}
 use Rattle.tables.proofs.Decoding.{tables-same, rows-count-same, kind-same, classes-count-same, field-count-same, place_same}
 use Rattle.run_heap.specs.declared.Fault.{Fault}
 use Rattle.run_steps.specs.declared.Turn.{Turn}

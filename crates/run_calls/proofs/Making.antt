@@ -11,7 +11,7 @@ use Rattle.rules.specs.Limits.{work_bytes, heap_objects, heap_fields}
 use Rattle.tables.specs.Layout.{values_at, holders_at, objects_at, frames_at}
 use Rattle.tables.specs.Decode.{word_at}
 use Rattle.tables.specs.Stores.{put_half}
-use Rattle.tables.proofs.Bytes.{half-put, word_kept, half-kept}
+use Rattle.tables.proofs.BytesRead.{half-put, word_kept, half-kept}
 use Rattle.run_heap.specs.Views.{cell_value, cell_holders_at, first_holder, second_holder, one, halves_at, class_in, first_in, fill, made}
 use Rattle.run_footprint.proofs.Regions.{Only, only-trans, only-wide, only-half, only-byte, only-fill, only_kept, fill-word, class-in-kept, first-in-kept}
 use Rattle.run_footprint.proofs.Cells.{SameObjects}

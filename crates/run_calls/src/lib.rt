@@ -1,4 +1,6 @@
 // `call` and `new`: a frame more, and an object more.
+#![tactic(auto)]
+
 ghost use Rattle.std.specs.Prelude.{◌≡◌, ◌+◌, ◌*◌, ◌≤◌, ◌<◌, take};
 ghost use Rattle.rules.specs.Limits.{most_statements, most_frames, heap_objects, heap_fields};
 ghost use Rattle.rules.specs.Grammar.{New, Call};

@@ -14,7 +14,7 @@ use Rattle.rules.proofs.Lists.{decide_eq, or_left, or_right}
 use Rattle.tables.specs.Layout.{holders_at, objects_at}
 use Rattle.tables.specs.Decode.{word_at}
 use Rattle.tables.specs.Stores.{put_word}
-use Rattle.tables.proofs.Bytes.{put-word-length, word-put, word_kept}
+use Rattle.tables.proofs.BytesRead.{put-word-length, word-put, word_kept}
 use Rattle.run_heap.specs.Views.{cell_holders_at, first_holder, second_holder, one, halves_at, whole_put, half_put, handed}
 use Rattle.run_heap.proofs.Halves.{one-other, one-cases, halves-at, halves-most}
 use Rattle.run_footprint.specs.Footprints.{cell_in, halves_in, part_of, taken, marked, ShareFits, SharesFit}

@@ -10,7 +10,7 @@ use Rattle.rules.specs.Limits.{heap_objects, heap_fields}
 use Rattle.tables.specs.Layout.{names_at, values_at, holders_at, objects_at, frames_at, frame_variables, frame_bytes}
 use Rattle.tables.specs.Decode.{byte_at, word_at}
 use Rattle.tables.specs.Stores.{put_half, put_word, Kept, SameTables}
-use Rattle.tables.proofs.Bytes.{put-word-length, put-word-byte, put-half-length, put-half-byte, word-put, word_kept, half-kept}
+use Rattle.tables.proofs.BytesRead.{put-word-length, put-word-byte, put-half-length, put-half-byte, word-put, word_kept, half-kept}
 use Rattle.run_heap.specs.Views.{frame_at, variable_at, saved_holder, saved_row, method_of, cell_value, first_holder, second_holder, halves_at, class_in, first_in, fill, frame_holder, frame_row, frame_method}
 
 -- bytes from a up to b may differ, and no others

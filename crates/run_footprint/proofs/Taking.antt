@@ -152,11 +152,11 @@ permit-halves w v k x f ss l h =
     (decide_eq k 2)
 
 -- the atom a
-take_own_lem :
+take_own :
     (w : List ℕ) (v : View) (a : ℕ) (ss : List ℕ) → atom_kind_at w a < eq_atom →
     take_in w v (atom_at w a ∷ []) ss ≡ own_in w v (permit_of (atom_kind_at w a)) (acc_variable_at w a) (acc_field_at w a) ss
 unfolding atom_at take_in is_permission
-take_own_lem w v a ss h = rw (lt-ltb (atom_kind_at w a) eq_atom h) (sym (bind-last w v _))
+take_own w v a ss h = rw (lt-ltb (atom_kind_at w a) eq_atom h) (sym (bind-last w v _))
 
 pub take-cmp :
     (w : List ℕ) (v : View) (a : ℕ) (ss : List ℕ) → eq_atom ≤ atom_kind_at w a →
@@ -197,7 +197,7 @@ module _
     (en : n ≡ atom_kind_at w a) (ex : x ≡ acc_variable_at w a) (ef : f ≡ acc_field_at w a) where
   own_is : take_in w v (atom_at w a ∷ []) ss ≡ share_in w v n x f ss
   own_is =
-      take_own_lem w v a ss (omega (arith, l))
+      take_own w v a ss (omega (arith, l))
       ∙ (permit-halves w v (atom_kind_at w a) (acc_variable_at w a) (acc_field_at w a) ss F.least l ∙ rw (en, ex, ef))
 
   pub own-fits : ((1 ≤ n) × (n ≤ 2)) × ((x < frame_variables) × (f < most_names))
@@ -225,7 +225,7 @@ module _
   pub chain-takes : take_in w v (atom_at w a ∷ []) ss ≡ chain_in w v f o ss
   unfolding permit_of own_in
   chain-takes =
-      take_own_lem w v a ss (omega (arith, l))
+      take_own w v a ss (omega (arith, l))
       ∙ (ap (λ (k : ℕ). own_in w v (permit_of k) (acc_variable_at w a) (acc_field_at w a) ss) l ∙ rw (eo, ex, ef))
 
 -- n atoms from the first on, i of them done

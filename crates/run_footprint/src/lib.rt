@@ -1,4 +1,6 @@
 // What a formula takes, and who holds it then. Chains are in `chains`, their walks in `walks`.
+#![tactic(auto)]
+
 mod chains;
 mod walks;
 
@@ -30,7 +32,7 @@ const SHARE: usize = 4;
 const SIEVE: usize = 64;
 
 // Whether a comparison is true.
-#[derive(Drop)]
+#[derive(Clone, Copy)]
 pub enum Truth {
     Holds,
     Fails,
@@ -38,7 +40,7 @@ pub enum Truth {
 }
 
 // How many shares a formula took.
-#[derive(Drop)]
+#[derive(Clone, Copy)]
 pub enum Took {
     Shares(usize),
     Lacking(Fault),

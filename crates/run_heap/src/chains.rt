@@ -10,7 +10,7 @@ use rules::Machine;
 use tables::ClassAt;
 
 // An inline cache: the place of one field in the class of which most objects of a walk are.
-#[derive(Drop)]
+#[derive(Clone, Copy)]
 pub struct Cache {
     pub class: usize,
     pub place: usize,

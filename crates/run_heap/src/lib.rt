@@ -1,4 +1,6 @@
 // The machine's stores in the work area: values, objects, frames; a location found, tested and read. Who holds it is in `holders`.
+#![tactic(auto)]
+
 mod chains;
 mod holders;
 mod strides;
@@ -20,7 +22,7 @@ pub use strides::walk_strided;
 use tables::{ClassAt, Expr, Layout};
 
 // Whose variables are read, where the heap ends, and who holds.
-#[derive(Drop)]
+#[derive(Clone, Copy)]
 pub struct View {
     pub base: usize,
     pub objects: usize,
@@ -28,7 +30,7 @@ pub struct View {
 }
 
 // How the stores are laid out, beyond `Layout`.
-#[derive(Drop)]
+#[derive(Clone, Copy)]
 pub struct Stores {}
 
 impl Stores {
@@ -64,7 +66,7 @@ const METHOD_AT: usize = ROW_AT + 2;
 const FIRST_AT: usize = 2;
 
 // Why a step is not done.
-#[derive(Drop)]
+#[derive(Clone, Copy)]
 pub enum Fault {
     HeapFull,
     FramesFull,
@@ -75,14 +77,14 @@ pub enum Fault {
 }
 
 // The cell of a location.
-#[derive(Drop)]
+#[derive(Clone, Copy)]
 pub enum Spot {
     At(usize),
     Lacking(Fault),
 }
 
 // The value of an expression.
-#[derive(Drop)]
+#[derive(Clone, Copy)]
 pub enum Read {
     Got(u32),
     Lacking(Fault),

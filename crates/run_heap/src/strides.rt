@@ -9,7 +9,7 @@ use crate::chains::{cache_of, walk_end, whole_by};
 use crate::{Cache, Fault, Read, Spot, View, cell_value};
 
 // Where a walk is: the next object, the last one passed, and how many were.
-#[derive(Drop)]
+#[derive(Clone, Copy)]
 pub struct Reached {
     pub at: u32,
     pub last: u32,

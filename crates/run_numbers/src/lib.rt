@@ -1,4 +1,6 @@
 // `add` and `sub` on numbers of 32 bits: the exact result, or that it does not fit.
+#![tactic(auto)]
+
 ghost use Rattle.std.specs.Prelude.{◌≡◌, ◌<◌};
 ghost use Rattle.rules.specs.Syntax.{sum, difference, words, offset};
 ghost use Rattle.rules.specs.Machine.{in_range, computed};
@@ -13,7 +15,7 @@ const WORDS: u64 = 4294967296;
 const SIGN: u64 = 2147483648;
 
 // The result's 32 bits, or that it is beyond "32 bits signed".
-#[derive(Drop)]
+#[derive(Clone, Copy)]
 pub enum Computed {
     Value(u32),
     Overflow,

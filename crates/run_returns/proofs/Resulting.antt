@@ -16,7 +16,7 @@ use Rattle.rules.proofs.Lists.{F-false}
 use Rattle.tables.specs.Layout.{frames_at, frame_variables}
 use Rattle.tables.specs.Decode.{program_in, kind_at, x_at}
 use Rattle.tables.specs.Stores.{SameTables, put_word}
-use Rattle.tables.proofs.Bytes.{same-trans}
+use Rattle.tables.proofs.BytesRead.{same-trans}
 use Rattle.tables.proofs.Decoding.{program-same}
 use Rattle.run_heap.specs.declared.Fault.{Fault}
 use Rattle.run_heap.specs.declared.View.{View}

@@ -18,7 +18,7 @@ use Rattle.tables.specs.Decode.{program_in, byte_at, half_at, method_place, oper
 use Rattle.tables.specs.Stores.{SameTables, put_word}
 use Rattle.tables.proofs.Rows.{row_in}
 use Rattle.tables.proofs.Statements.{call-means}
-use Rattle.tables.proofs.Bytes.{same-trans, same_refl}
+use Rattle.tables.proofs.BytesRead.{same-trans, same_refl}
 use Rattle.tables.proofs.Decoding.{tables-same, rows-count-same, kind-same}
 use Rattle.run_heap.specs.declared.Fault.{Fault}
 use Rattle.run_steps.specs.declared.Turn.{Turn}

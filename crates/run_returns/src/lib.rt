@@ -1,4 +1,6 @@
 // `end` and `return`: back to the caller.
+#![tactic(auto)]
+
 ghost use Rattle.std.specs.Prelude.{◌≡◌, ◌+◌, ◌*◌, ◌-◌, ◌≤◌, ◌<◌, length};
 ghost use Rattle.run_steps.specs.States.{CanStep, Does, most_count};
 ghost use Rattle.rules.specs.Limits.{work_bytes, most_statements};

@@ -13,7 +13,7 @@ use Rattle.rules.proofs.Lists.{decide_eq, some_inj}
 use Rattle.rules.proofs.Heaps.{store_same, store_other}
 use Rattle.tables.specs.Layout.{frame_variables, values_at, holders_at, objects_at}
 use Rattle.tables.specs.Stores.{SameTables, put_word}
-use Rattle.tables.proofs.Bytes.{word-put, word_kept}
+use Rattle.tables.proofs.BytesRead.{word-put, word_kept}
 use Rattle.tables.proofs.Decoding.{tables-same, rows-count-same}
 use Rattle.run_heap.specs.Views.{frame_at, variable_at, cell_value, halves_at, cell_of, halves_in, halves_of, method_of, frame_holder, frame_method}
 use Rattle.run_footprint.specs.Footprints.{taken, marked}

@@ -17,7 +17,7 @@ use Rattle.tables.specs.Layout.{frame_variables, values_at, holders_at, frames_a
 use Rattle.tables.specs.Decode.{operation_of, kind_at, x_at, y_at, z_at, member_at, target_at, first_atom_at, atom_count_at, atoms_from, atom_count, operands_at, formula_at, right_at}
 use Rattle.tables.specs.Tables.{declared_in, OperandsFit}
 use Rattle.tables.specs.Stores.{SameTables, put_word}
-use Rattle.tables.proofs.Bytes.{same_refl}
+use Rattle.tables.proofs.BytesRead.{same_refl}
 use Rattle.run_heap.specs.declared.View.{View}
 use Rattle.run_heap.specs.declared.Fault.{Fault}
 use Rattle.run_steps.specs.declared.Turn.{Turn}
@@ -304,18 +304,18 @@ module _ {w : List ℕ} {c : Machine} {f k : ℕ} (O : Shutting w c f k) where
         does-stop s (λ m R. Steps.shut-walk-stop R _ _ l.0 l.1 k at-member.cell s (walk-as w c v f _ n _ ev O.field en e))
 
 module _ {w : List ℕ} {c : Machine} {k : ℕ} (O : Walked w c k) where
-  shut_at_lem : (x_at w c.row < frame_variables) × (member_at w c.row < most_names)
-  shut_at_lem = shut-fits O.shutting.ready O.shutting.at_shut
+  shut_at : (x_at w c.row < frame_variables) × (member_at w c.row < most_names)
+  shut_at = shut-fits O.shutting.ready O.shutting.at_shut
 
   pub shut-does : {d : Machine} → 2 ≤ halves_at w c.holder k → d ≡ stepped c (c.row + 1) → Does w c w (Turn.On d) (shut_here w c)
   unfolding statement_number
   shut-does l q =
       does-on refl q (same_refl w)
       (λ m R.
-      Steps.shut-done R _ _ shut_at_lem.0 shut_at_lem.1 k O.shutting.cell O.last O.walked
+      Steps.shut-done R _ _ shut_at.0 shut_at.1 k O.shutting.cell O.last O.walked
       (λ z. omega (arith, z, O.shutting.at_shut)) l)
 
   pub shut-lacks : halves_at w c.holder k < 2 → Does w c w (Turn.Stopped Fault.Permission) (shut_here w c)
   shut-lacks l =
       does-stop Fault.Permission
-      (λ m R. Steps.shut-half-stop R _ _ shut_at_lem.0 shut_at_lem.1 k O.shutting.cell O.last O.walked l)
+      (λ m R. Steps.shut-half-stop R _ _ shut_at.0 shut_at.1 k O.shutting.cell O.last O.walked l)

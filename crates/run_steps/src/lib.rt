@@ -1,4 +1,6 @@
 // Which state the stores stand for; the steps that stay in their frame. `open` and `shut` are in `chains`.
+#![tactic(auto)]
+
 mod chains;
 
 ghost use Rattle.std.specs.Prelude.{◌≡◌, [], ◌+◌, ◌*◌, ◌<◌, T, length};
@@ -19,7 +21,7 @@ use tables::Layout;
 const NOBODY: u32 = 0;
 
 // What became of a step: on to the next, not done, or main's `end` done.
-#[derive(Drop)]
+#[derive(Clone, Copy)]
 pub enum Turn {
     On(Machine),
     Stopped(Fault),

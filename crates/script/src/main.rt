@@ -1,4 +1,6 @@
 // The program of document 01: reads a script from standard input, checks it, tries it out for at most 1,000 steps, and prints the answers.
+#![tactic(auto)]
+
 ghost use Rattle.std.specs.Prelude.{◌≡◌, ◌≤◌, length};
 ghost use Rattle.rules.specs.Printed.{printed};
 ghost use Rattle.printer.specs.Writes.{Prints};
@@ -9,7 +11,7 @@ use libc::{STDIN_FILENO, STDOUT_FILENO};
 use rules::Machine;
 
 // What reading gave: so many bytes at the start of the area, or a read that failed.
-#[derive(Drop)]
+#[derive(Clone, Copy)]
 pub enum Input {
     Bytes(usize),
     Failed,

@@ -98,21 +98,21 @@ first_on : (q : Main) (p : ℕ) (ms : List Main) → map (λ m. q ++ m) (map (λ
 first_on q p [] = refl
 first_on q p (m ∷ ms) = ap₂ ◌∷◌ (sym (append_assoc q (p ∷ []) m)) (first_on q p ms)
 
-place_at_lem : (i : ℕ) → i < 5 → get_or places i 0 ≡ i + 1
-place_at_lem zero h = refl
-place_at_lem (suc zero) h = refl
-place_at_lem (suc (suc zero)) h = refl
-place_at_lem (suc (suc (suc zero))) h = refl
-place_at_lem (suc (suc (suc (suc zero)))) h = refl
-place_at_lem (suc (suc (suc (suc (suc i))))) h = absurd (omega arith)
+place_at : (i : ℕ) → i < 5 → get_or places i 0 ≡ i + 1
+place_at zero h = refl
+place_at (suc zero) h = refl
+place_at (suc (suc zero)) h = refl
+place_at (suc (suc (suc zero))) h = refl
+place_at (suc (suc (suc (suc zero)))) h = refl
+place_at (suc (suc (suc (suc (suc i))))) h = absurd (omega arith)
 
 first-places : (i : ℕ) → i < 5 → take (i + 1) places ≡ take i places ++ ((i + 1) ∷ [])
-first-places i h = rw add-one (take-suc places i 0 h ∙ ap (λ p. take i places ++ (p ∷ [])) (place_at_lem i h ∙ add-one i))
+first-places i h = rw add-one (take-suc places i 0 h ∙ ap (λ p. take i places ++ (p ∷ [])) (place_at i h ∙ add-one i))
 
 module _ (m r : Main) (n i : ℕ) (h : i < 5) (q : r ≡ m ++ ((i + 1) ∷ [])) where
-  one_more_lem : up_to m n (i + 1) ≡ up_to m n i ++ after r n
+  one_more : up_to m n (i + 1) ≡ up_to m n i ++ after r n
   unfolding each_first
-  one_more_lem =
+  one_more =
       ap (λ ps. going_on m (each_first ps (mains n))) (first-places i h)
       ∙ (ap (going_on m) (each_append (take i places) ((i + 1) ∷ []) (mains n))
       ∙ (map-append (λ k. m ++ k) (each_first (take i places) (mains n)) (map (λ k. (i + 1) ∷ k) (mains n) ++ [])
@@ -122,7 +122,7 @@ module _ (m r : Main) (n i : ℕ) (h : i < 5) (q : r ≡ m ++ ((i + 1) ∷ [])) 
 
   pub lists-on :
       {o p o' : List ℕ} {a e f : ℕ} → Lists (up_to m n i) o a p e → Lists (after r n) p e o' f → Lists (up_to m n (i + 1)) o a o' f
-  lists-on x y = writes_as (writes-on x y) (kept_append (up_to m n i) (after r n) ∙ ap (λ l. lines_of (keep accepted l)) (sym one_more_lem))
+  lists-on x y = writes_as (writes-on x y) (kept_append (up_to m n i) (after r n) ∙ ap (λ l. lines_of (keep accepted l)) (sym one_more))
 
 -- the first places take no more room than all
 first-room : (m : Main) (n i : ℕ) → room (up_to m n i) ≤ room (up_to m n 5)
@@ -133,7 +133,7 @@ pub room-on :
     (m r : Main) (n i : ℕ) → i < 5 → r ≡ m ++ ((i + 1) ∷ []) →
     {o p : List ℕ} {a e k : ℕ} → a + room (up_to m n 5) ≤ k → Lists (up_to m n i) o a p e → e + room (after r n) ≤ k
 room-on m r n i h q g x =
-    room-left (up_to m n i) (after r n) (omega (arith, g, first-room m n (i + 1), ap room (one_more_lem m r n i h q))) x
+    room-left (up_to m n i) (after r n) (omega (arith, g, first-room m n (i + 1), ap room (one_more m r n i h q))) x
 
 -- ALL
 pub begun-none : (m : Main) (n : ℕ) → m ≡ [] → after m n ≡ mains n

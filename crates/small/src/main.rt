@@ -1,4 +1,6 @@
 // The program of W14: prints each accepted main of 0 to 3 statements, one a line. Each is tried by `check` on its text.
+#![tactic(auto)]
+
 ghost use Rattle.std.specs.Prelude.{◌≡◌, [], ◌∷◌, ◌+◌, ◌≤◌, ◌<◌, length};
 ghost use Rattle.printer.specs.Writes.{Writes, Prints};
 ghost use Rattle.small_list.specs.Small.{most_statements, statement, opening, body, text_of, accepted, line_of, printed};
@@ -16,7 +18,7 @@ const TEXT_BYTES: usize = 95;
 const OUT_BYTES: usize = 586;
 
 // The place of each statement, and how many there are.
-#[derive(Drop)]
+#[derive(Clone, Copy)]
 pub struct Place {}
 
 impl Place {
@@ -32,7 +34,7 @@ impl Place {
 }
 
 // The places of a main's statements, as digits.
-#[derive(Drop)]
+#[derive(Clone, Copy)]
 pub struct Places {
     pub digits: [u8; MOST_STATEMENTS],
     pub count: usize,

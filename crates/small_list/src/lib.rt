@@ -1,1 +1,2 @@
 // Definitions and proofs only: the list of all small scripts (W14), and what is said of it.
+#![tactic(auto)]

@@ -123,10 +123,10 @@ module _ (text : List Line) (p : Place) (s : Scope) where
   line-formed Field ws t h = (tt, absurd)
   line-formed Method ws t h = (tt, λ _. method-header _ _ _ _)
   line-formed Requires ws t h =
-      let H : Header s.block = h (stands-in-header Requires p (lit≤ tt) (lit≤ tt) t.in_place) in
+      let H : Header s.block = h (stands-in-header Requires p (lit≤ tt) (lit≤ tt) t.is_in_place) in
       (formula-over (declarations text) s.block.variables AtCall H.variables s _ t.known, λ _. H)
   line-formed Ensures ws t h =
-      let H : Header s.block = h (stands-in-header Ensures p (lit≤ tt) (lit≤ tt) t.in_place) in
+      let H : Header s.block = h (stands-in-header Ensures p (lit≤ tt) (lit≤ tt) t.is_in_place) in
       let vs : List Variable = s.block.variables ++ s.block.result in
       (formula-over (declarations text) vs AtEnd (header-ends s.block H) s _ t.known, absurd)
   line-formed Main ws t h = (tt, absurd)

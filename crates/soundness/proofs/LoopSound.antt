@@ -33,7 +33,7 @@ module _ (P : Program) (m : Config) (s : State) (S : Satisfied m.heap m.frame s)
         L.goes_on,
         subst
             (λ t. Opened P m.frame.ensures (in_loop φ L.states.1 ∷ os) (open_after t m.frame.row (open_at P.rows m.frame.row)))
-            (sym L.is_Loop) (L, o, o),
+            (sym L.found_loop) (L, o, o),
       ) in
       subst (λ t. Kept P m (took t)) (sym (bind-of-ok (footprint m.heap m.frame φ) _ _ f))
       (choose-kept P m L.known S₀ L.rel L.left L.right L.states L.splits _ _ (in_loop φ L.states.1 ∷ os) os k

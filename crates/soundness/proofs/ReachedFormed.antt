@@ -76,9 +76,9 @@ dropping_keeps t items e φ i s os c =
 module _ (P : Program) (φ : Formula ℕ) where
   pub record Onward (t : Stmt) (i : ℕ) (e : End) (os : List Open) : Type 0 where
     pub end_after : End
-    pub open_after_lem : List Open
-    pub leads : Leads P φ t e os end_after open_after_lem
-    pub checks : check_from P φ (suc i) end_after open_after_lem ≡ accepted tt
+    pub open_after : List Open
+    pub leads : Leads P φ t e os end_after open_after
+    pub checks : check_from P φ (suc i) end_after open_after ≡ accepted tt
 
   row-leads :
       (t : Stmt) (l i : ℕ) (e : End) (os : List Open) →
@@ -87,35 +87,35 @@ module _ (P : Program) (φ : Formula ℕ) where
   row-leads (simple p) l i none os c = refused-accepted c
   row-leads (simple p) l i (some s) os c =
       let (s', r, k) = at_line-accepted l (rule P p s) _ tt c in
-      inr (record { end_after = some s'; open_after_lem = os; leads = by_rule r; checks = k })
+      inr (record { end_after = some s'; open_after = os; leads = by_rule r; checks = k })
   row-leads (return x) l i none os c = refused-accepted c
   row-leads (return x) l i (some s) os c =
       let (_, r, k) = at_line-accepted l (return_rule x φ s) _ tt c in
-      inr (record { end_after = none; open_after_lem = os; leads = by_return r; checks = k })
+      inr (record { end_after = none; open_after = os; leads = by_return r; checks = k })
   row-leads (if n a b) l i none os c = refused-accepted c
   row-leads (if n a b) l i (some s) os c =
       let (d, r, k) = at_line-accepted l (if_rule n a b s) _ tt c in
-      inr (record { end_after = some d.0; open_after_lem = in_first d.1 ∷ os; leads = by_if r; checks = k })
+      inr (record { end_after = some d.0; open_after = in_first d.1 ∷ os; leads = by_if r; checks = k })
   row-leads else l i e [] c = refused-accepted c
-  row-leads else l i e (in_first s ∷ os) c = inr (record { end_after = some s; open_after_lem = in_second e ∷ os; leads = by_else; checks = c })
+  row-leads else l i e (in_first s ∷ os) c = inr (record { end_after = some s; open_after = in_second e ∷ os; leads = by_else; checks = c })
   row-leads else l i e (in_second d ∷ os) c = refused-accepted c
   row-leads else l i e (in_loop ψ s ∷ os) c = refused-accepted c
   row-leads (join ψ) l i e [] c = refused-accepted c
   row-leads (join ψ) l i e (in_first s ∷ os) c = refused-accepted c
   row-leads (join ψ) l i e (in_second d ∷ os) c =
       let (s, r, k) = at_line-accepted l (join_rule ψ d e) _ tt c in
-      inr (record { end_after = some s; open_after_lem = os; leads = by_join r; checks = k })
+      inr (record { end_after = some s; open_after = os; leads = by_join r; checks = k })
   row-leads (join ψ) l i e (in_loop χ s ∷ os) c = refused-accepted c
   row-leads (loop n a b ψ) l i none os c = refused-accepted c
   row-leads (loop n a b ψ) l i (some s) os c =
       let (d, r, k) = at_line-accepted l (loop_rule n a b ψ s) _ tt c in
-      inr (record { end_after = some d.0; open_after_lem = in_loop ψ d.1 ∷ os; leads = by_loop r; checks = k })
+      inr (record { end_after = some d.0; open_after = in_loop ψ d.1 ∷ os; leads = by_loop r; checks = k })
   row-leads again l i e [] c = refused-accepted c
   row-leads again l i e (in_first s ∷ os) c = refused-accepted c
   row-leads again l i e (in_second d ∷ os) c = refused-accepted c
   row-leads again l i e (in_loop ψ s ∷ os) c =
       let (_, r, k) = at_line-accepted l (show_end ψ e) _ tt c in
-      inr (record { end_after = some s; open_after_lem = os; leads = by_again r; checks = k })
+      inr (record { end_after = some s; open_after = os; leads = by_again r; checks = k })
   row-leads end l i e os c = inl refl
 
   pub accepted-leads :

@@ -22,7 +22,7 @@ use Rattle.rules.proofs.Successors.{listed-fact, fact-listed}
 use Rattle.rules.proofs.FormedStates.{Parted, parted}
 
 -- MORE FACTS: what was ~ is ~
-linked-more : {t u : Term} (fs gs : List Fact) → ((f : Fact) → Member f fs → Member f gs) → Linked fs t u → Linked gs t u
+linked-more : (fs gs : List Fact) → ((f : Fact) → Member f fs → Member f gs) → {t u : Term} → Linked fs t u → Linked gs t u
 linked-more fs gs m itself = itself
 linked-more fs gs m (listed l) = let (f, i, r, p, q) = listed-fact fs l in listed (fact-listed gs f (m f i) r p q)
 linked-more fs gs m (back l) = back (linked-more fs gs m l)

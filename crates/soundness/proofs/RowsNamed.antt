@@ -294,7 +294,7 @@ module _ (text : List Line) where
   lines-named n p s ls items (line {l = l} {ls = ls'} {items = items'} t ts) F = (
     line-named p s l.kind l.fields F t,
     lines-named (suc n) _ _ ls' items' ts
-        (line-fits p s.members.class s.block l.kind l.fields t.in_place t.within F),
+        (line-fits p s.members.class s.block l.kind l.fields t.is_in_place t.within F),
   )
 
 first_fits_lem : Fitting first_place first_scope.block

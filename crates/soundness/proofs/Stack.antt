@@ -50,7 +50,7 @@ pub record Suspended (P : Program) (h : Heap) (this w : ℕ) (φ : Formula ℕ) 
   pub after : State
   pub opens : List Open
   pub adds : add (map (subst_atom (actual y z x)) φ) (remove x left) ≡ ok after
-  pub goes_on_lem : Accepts P C.ensures (suc C.row) (some after) opens
+  pub goes_on : Accepts P C.ensures (suc C.row) (some after) opens
 
 -- all callers, the nearest first
 abbrev pub Below : Program → Heap → ℕ → ℕ → Formula ℕ → List Frame → Type 0
@@ -129,7 +129,7 @@ suspended-heap P h h' t w φ C A S =
       after = S.after;
       opens = S.opens;
       adds = S.adds;
-      goes_on_lem = S.goes_on;
+      goes_on = S.goes_on;
     }
 
 below-heap :
@@ -138,7 +138,7 @@ below-heap :
 below-heap P h h' t w φ [] A B = tt
 below-heap P h h' t w φ (C ∷ Cs) A B = (
   suspended-heap P h h' t w φ C (λ p i. A p (omega (arith, i, shares-cons C Cs p))) B.0,
-  below-heap P h h' _ _ _ Cs (λ p l. A p (omega (arith, l, shares-cons C Cs p))) B.1,
+  below-heap P h h' (value_of C this_variable) (value_of C parameter) C.ensures Cs (λ p l. A p (omega (arith, l, shares-cons C Cs p))) B.1,
 )
 
 -- what the callers hold the frame does not hold whole, and no step of its own changes it

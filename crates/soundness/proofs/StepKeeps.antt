@@ -102,7 +102,7 @@ module _ (room : Room) (P : Program) (W : WellFormed P) (all : MethodsAccepted P
         let (c, i, j) = at_line-accepted _ (loop_rule n a b φ s) _ _ A.checks in
         let (u, d, _) = bind_ok (show s φ) i in
         let L = loop-at P _ _ n a b φ s c os A.is_row i j in
-        subst (λ t. Kept P m (step_at room P t m)) (sym L.is_Loop ∙ A.is_row) (loop-sound P m s S most φ u d os L A.opened)
+        subst (λ t. Kept P m (step_at room P t m)) (sym L.found_loop ∙ A.is_row) (loop-sound P m s S most φ u d os L A.opened)
     row_kept [] again A = refused-accepted A.checks
     row_kept (in_first s₂ ∷ os) again A = refused-accepted A.checks
     row_kept (in_second s₁ ∷ os) again A = refused-accepted A.checks
@@ -122,7 +122,7 @@ module _ (room : Room) (P : Program) (W : WellFormed P) (all : MethodsAccepted P
   ready-kept (at_join φ s s' u os j S a b k) =
       subst (λ t. Kept P m (step_at room P t m)) (sym j) (onward s S s' os _ k (join-sound m s S most φ u a s' b))
   ready-kept (at-loop φ s u os S a L o) =
-      subst (λ t. Kept P m (step_at room P t m)) (sym L.is_Loop) (loop-sound P m s S most φ u a os L o)
+      subst (λ t. Kept P m (step_at room P t m)) (sym L.found_loop) (loop-sound P m s S most φ u a os L o)
   ready-kept (at-nothing e f) =
       subst (λ t. Kept P m (step_at room P t m)) (sym e)
       (end-sound P m m [] (ap (λ (φ : Formula ℕ). footprint m.heap m.frame φ) f) m.callers refl I.below)

@@ -1,4 +1,6 @@
 // A text with the line `requires *`, read with its star as a formula without atoms; the star's line, its method and that method's classes.
+#![tactic(auto)]
+
 ghost use Rattle.std.specs.Prelude.{◌≡◌, pred, ◌≤◌, length};
 ghost use Rattle.rules.specs.Limits.{work_bytes};
 ghost use Rattle.rules.specs.Scope.{declarations};
@@ -16,7 +18,7 @@ use tables::HeaderAt;
 
 // The star's line, and the first line that number 10 refuses, or 0; the star's method, its class, and the class of its parameter, or the
 // count of classes for an int.
-#[derive(Drop)]
+#[derive(Clone, Copy)]
 pub struct Star {
     pub line: usize,
     pub unframed: usize,
@@ -26,7 +28,7 @@ pub struct Star {
 }
 
 // Why a text is refused, and at which line; that it has no star, or a second one, at this line; or its star.
-#[derive(Drop)]
+#[derive(Clone, Copy)]
 pub enum Starred {
     Refused(Refusal, usize),
     Missing,

@@ -21,7 +21,7 @@ use Rattle.rules.proofs.Tries.{refusal-not-zero}
 use Rattle.rules.proofs.LinesTaken.{read_taken}
 use Rattle.tables.specs.Decode.{program_in}
 use Rattle.tables.specs.Stores.{put_word}
-use Rattle.tables.proofs.Bytes.{put-word-length}
+use Rattle.tables.proofs.BytesRead.{put-word-length}
 use Rattle.bound_laws.proofs.Repeating.{repeating-row}
 use Rattle.soundness.proofs.Demand3.{check-decides}
 use Rattle.reckoner.specs.declared.Outcome.{Outcome}

@@ -106,9 +106,9 @@ pub record Written (area : List ℕ) (i : ℕ) (x now : List ℕ) : Type 0 where
 pub none_written : (area : List ℕ) → Written area 0 [] area
 none_written area = record { parts = refl; is = refl }
 
-pub one_more_lem :
+pub one_more :
     (area x now p now' : List ℕ) (i : ℕ) → Written area i x now → length p ≡ script_bytes → now' ≡ put_part now i p → Written area (i + 1) (x ++ p) now'
-one_more_lem area x now p now' i W n e =
+one_more area x now p now' i W n e =
     let a : ℕ = i * script_bytes in
     let rest : List ℕ = drop a area in
     let next : a + script_bytes ≡ (i + 1) * script_bytes = omega arith in
@@ -217,10 +217,10 @@ module _ (q : Asked) (w b : List ℕ) where
           bytes =
               let p : ℕ → List ℕ = part in
               let n : length b ≡ count_bytes = (fit-lengths w b m).1 in
-              let W = one_more_lem b [] b (p 0) b₁ 0 (none_written b) (long 0 (omega arith)) e₁ in
-              let X = one_more_lem b (p 0) b₁ (p 1) b₂ 1 W (long 1 (omega arith)) e₂ in
-              let Y = one_more_lem b (p 0 ++ p 1) b₂ (p 2) b₃ 2 X (long 2 (omega arith)) e₃ in
-              let Z = one_more_lem b ((p 0 ++ p 1) ++ p 2) b₃ (p 3) b₄ 3 Y (long 3 (omega arith)) e₄ in
+              let W = one_more b [] b (p 0) b₁ 0 (none_written b) (long 0 (omega arith)) e₁ in
+              let X = one_more b (p 0) b₁ (p 1) b₂ 1 W (long 1 (omega arith)) e₂ in
+              let Y = one_more b (p 0 ++ p 1) b₂ (p 2) b₃ 2 X (long 2 (omega arith)) e₃ in
+              let Z = one_more b ((p 0 ++ p 1) ++ p 2) b₃ (p 3) b₄ 3 Y (long 3 (omega arith)) e₄ in
               Z.is
               ∙ (ap (λ (l : List ℕ). (((p 0 ++ p 1) ++ p 2) ++ p 3) ++ l) (drop_of_length-le b {i = 224} (omega (arith, n)))
               ∙ (append-nil (((p 0 ++ p 1) ++ p 2) ++ p 3)

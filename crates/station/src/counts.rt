@@ -12,7 +12,7 @@ use rules::Machine;
 use tables::Bytes;
 
 // A joint run: how many scripts there are, and the rounds.
-#[derive(Drop)]
+#[derive(Clone, Copy)]
 pub struct Joint {
     pub scripts: u32,
     pub rounds: u32,

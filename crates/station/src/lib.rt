@@ -1,5 +1,7 @@
 // The calls that a host links, `check`, `run`, `trial`, `lean`, `bound` and `fill`, and what the program prints. Each reads the text, does its work, and
 // clears the work area. The module `counts` has `count`.
+#![tactic(auto)]
+
 mod bounds;
 mod counts;
 mod fills;
@@ -32,7 +34,7 @@ use rules::{Machine, Number};
 use tables::{Bytes, Layout};
 
 // A number of document 01's table, and the line that it goes with.
-#[derive(Drop)]
+#[derive(Clone, Copy)]
 pub struct Reply {
     pub number: u32,
     pub line: usize,

@@ -9,7 +9,7 @@ use Rattle.tables.specs.Layout.{classes_at, places_at, methods_at, atoms_at, mos
 use Rattle.tables.specs.Decode.{byte_at, half_at, atom_place, row_place, kind_at, target_at, row_at, all_rows, row_count, atom_count, class_count, method_count, main_first, requires_at, ensures_at, method_at, methods_from, method_place, first_row_at, class_place, places_place, field_count_at, class_at, classes_from, program_in}
 use Rattle.tables.specs.Tables.{RowFits, HasTarget, TargetFits, MethodFits, Tables, BlockFits, declared_in, place_at}
 use Rattle.tables.specs.Stores.{Kept, SameTables}
-use Rattle.tables.proofs.Bytes.{half-kept}
+use Rattle.tables.proofs.BytesRead.{half-kept}
 use Rattle.tables.proofs.Runs.{run-same}
 use Rattle.tables.proofs.Kept.{RowsKept, all-rows, one_atom, atom-fits-kept, row_same, operands-fit-kept, one-method, after-requires, first-row-kept, formulas-fit-kept, requires-kept, ensures-kept, method-same, field-count-kept, place_kept, class_same, class-fits-kept}
 

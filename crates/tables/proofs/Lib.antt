@@ -1,4 +1,4 @@
-pub mod Bytes
+pub mod BytesRead
 pub mod Runs
 pub mod Kept
 pub mod Decoding

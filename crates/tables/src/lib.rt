@@ -1,4 +1,6 @@
 // The tables in the lent work area: where each stands (`Layout`), and the functions that read bytes, words, sides and atoms there.
+#![tactic(auto)]
+
 mod columns;
 mod declarations;
 mod offsets;
@@ -23,7 +25,7 @@ pub use offsets::{AtomAt, Bytes, ClassAt, HeaderAt, MethodAt, RowAt, SideTag};
 pub use stores::{put_byte, put_half, put_word};
 
 // Where each table stands in the work area: the constants below as one value.
-#[derive(Drop)]
+#[derive(Clone, Copy)]
 pub struct Layout {
     pub rows: usize,
     pub methods: usize,
@@ -153,7 +155,7 @@ pub fn word_at(w: &[u8], i: usize) -> u32
 
 // A statement row but for its target: the number of its kind, its variables, its field, class or method, how many atoms
 // it has and the first of them, its line.
-#[derive(Drop)]
+#[derive(Clone, Copy)]
 pub struct Operands {
     pub kind: u8,
     pub x: usize,
@@ -166,7 +168,7 @@ pub struct Operands {
 }
 
 // A side of an atom, resolved: a variable by its number, a field by the number of its name.
-#[derive(Drop)]
+#[derive(Clone, Copy)]
 pub enum Expr {
     Num(u32),
     Null,
@@ -227,7 +229,7 @@ pub fn main_first(w: &[u8]) -> usize
 // ATOMS
 
 // The kinds of atoms, by their numbers: that of a permission is the number of its halves.
-#[derive(Drop)]
+#[derive(Clone, Copy)]
 pub struct AtomKind {}
 
 impl AtomKind {

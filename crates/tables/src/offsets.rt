@@ -1,7 +1,7 @@
 // Where the columns of each row stand in it, the tags of an atom's sides, and how bytes make numbers.
 
 // The counts at the head of the work area.
-#[derive(Drop)]
+#[derive(Clone, Copy)]
 pub struct HeaderAt {}
 
 impl HeaderAt {
@@ -17,7 +17,7 @@ impl HeaderAt {
 }
 
 // The columns of a statement row, after its kind.
-#[derive(Drop)]
+#[derive(Clone, Copy)]
 pub struct RowAt {}
 
 impl RowAt {
@@ -39,7 +39,7 @@ impl RowAt {
 }
 
 // The columns of an atom, after its kind.
-#[derive(Drop)]
+#[derive(Clone, Copy)]
 pub struct AtomAt {}
 
 impl AtomAt {
@@ -58,7 +58,7 @@ impl AtomAt {
 }
 
 // The tag of a side says what its four bytes are.
-#[derive(Drop)]
+#[derive(Clone, Copy)]
 pub struct SideTag {}
 
 impl SideTag {
@@ -72,7 +72,7 @@ impl SideTag {
 }
 
 // The columns of a method, after the first atom of its requires.
-#[derive(Drop)]
+#[derive(Clone, Copy)]
 pub struct MethodAt {}
 
 impl MethodAt {
@@ -86,7 +86,7 @@ impl MethodAt {
 }
 
 // The columns of a class, after its count of fields: name and kind of the first field; each has so many bytes.
-#[derive(Drop)]
+#[derive(Clone, Copy)]
 pub struct ClassAt {}
 
 impl ClassAt {
@@ -101,7 +101,7 @@ impl ClassAt {
 }
 
 // Numbers as bytes, low byte first.
-#[derive(Drop)]
+#[derive(Clone, Copy)]
 pub struct Bytes {}
 
 impl Bytes {

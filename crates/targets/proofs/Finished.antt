@@ -21,7 +21,7 @@ use Rattle.tables.specs.Decode.{byte_at, row_place, target_place, kind_at, opera
 use Rattle.tables.specs.Layout.{methods_at, names_at}
 use Rattle.tables.specs.Tables.{Declared, HasTarget, TargetFits, Tables, BlockFits, nested}
 use Rattle.tables.specs.Stores.{Kept}
-use Rattle.tables.proofs.Bytes.{Outside, put-half-byte, half-kept}
+use Rattle.tables.proofs.BytesRead.{Outside, put-half-byte, half-kept}
 use Rattle.tables.proofs.Runs.{less-or-not, run-get}
 use Rattle.tables.proofs.Statements.{not_end}
 use Rattle.targets.specs.Targets.{pushed, popped, replaced, open_after, put_target, closed, work_after, targets_from}

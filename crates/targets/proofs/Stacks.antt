@@ -9,7 +9,7 @@ use borrow.Author.Tests.{le-ltb, lt-ltb, ne_eqb}
 use lib.Dec.{eqb}
 use lib.ListN.{length}
 use Rattle.tables.specs.Decode.{kind_at, row_place}
-use Rattle.tables.proofs.Bytes.{put-half-length}
+use Rattle.tables.proofs.BytesRead.{put-half-length}
 use Rattle.targets.specs.Targets.{power, stack_of, pushed, popped, replaced, open_after, put_target, closed, work_after, targets_from}
 
 stack-length : (d s : ℕ) → length (stack_of d s) ≡ d

@@ -16,7 +16,7 @@ use Rattle.rules.specs.Syntax.{Simple, Stmt, Row, simple, return, else, join, ag
 use Rattle.rules.specs.Machine as Machine
 use Rattle.rules.specs.Machine.{depth_after, closes, seek, closing, open_at, loop_of}
 use Rattle.rules.proofs.Lists.{head-or, decide_eq, and_both, T_true}
-use Rattle.tables.proofs.Bytes.{Outside, put-half-byte, half-put}
+use Rattle.tables.proofs.BytesRead.{Outside, put-half-byte, half-put}
 use Rattle.tables.proofs.Runs.{run_length}
 use Rattle.tables.proofs.Rows.{rows-cons}
 use Rattle.tables.proofs.Statements.{if-means, else-means, join-means, loop-means, again-means, no-branch}

@@ -1,4 +1,6 @@
 // Where `if`, `else`, `loop` and `again` go on, by one walk over the rows; the tables ended.
+#![tactic(auto)]
+
 ghost use Rattle.std.specs.Prelude.{◌≡◌, ◌+◌, ◌≤◌, ◌<◌, [], length};
 ghost use Rattle.rules.specs.Limits.{most_statements, work_bytes};
 ghost use Rattle.tables.specs.Numbers.{byte_values, half_values};
@@ -9,7 +11,7 @@ use rules::{Kind, Machine};
 use tables::{Bytes, Layout, RowAt, kind_at, put_half};
 
 // The rows of the open branches and loops: how many, and their numbers as bytes, the innermost lowest.
-#[derive(Drop)]
+#[derive(Clone, Copy)]
 pub struct Open {
     pub depth: usize,
     pub rows: usize,

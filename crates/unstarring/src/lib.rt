@@ -1,4 +1,6 @@
 // A text's copy in which each line `requires *` is a `requires` without atoms, and the lines of the first two stars.
+#![tactic(auto)]
+
 ghost use Rattle.std.specs.Prelude.{◌≡◌, ◌++◌, ◌+◌, ◌≤◌, ◌<◌, length, take};
 ghost use Rattle.rules.specs.Limits.{most_bytes};
 ghost use Rattle.rules.specs.Fill.{is_starred};
@@ -7,7 +9,7 @@ ghost use Rattle.unstarring.specs.Copies.{LineTo, with_star, LineCopied, Unstarr
 use read_bytes::Byte;
 
 // The copy's length so far, and the lines of the first two stars, from 1, or 0.
-#[derive(Drop)]
+#[derive(Clone, Copy)]
 pub struct Stars {
     pub len: usize,
     pub first: usize,

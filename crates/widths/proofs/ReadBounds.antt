@@ -269,7 +269,7 @@ module _ (n : ℕ) where
   unfolding with_items
   items-fit P m [] h s x = x
   items-fit P m (a ∷ items) h s x =
-      items-fit _ (suc m) items (omega arith) s.1 (item-fits P (suc m) a (omega arith) s.0 x)
+      items-fit (with_item P (suc m) a) (suc m) items (omega arith) s.1 (item-fits P (suc m) a (omega arith) s.0 x)
 
   pub program-fits : (items : List Item) → length items ≤ n → All SmallItem items → ProgramFits n (program items)
   unfolding program

@@ -1,4 +1,6 @@
 // Lines with a formula written.
+#![tactic(auto)]
+
 ghost use Rattle.std.specs.Prelude.{◌≡◌, ◌≤◌, ◌<◌};
 ghost use Rattle.rules.specs.Limits.{most_statements, most_methods, most_atoms};
 ghost use Rattle.rules.specs.Items.{a_requires, an_ensures};

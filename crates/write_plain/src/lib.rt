@@ -1,4 +1,6 @@
 // The rows of statements that have no atom.
+#![tactic(auto)]
+
 mod calls;
 mod chains;
 
@@ -19,7 +21,7 @@ use rules::Kind;
 use tables::Operands;
 
 // The row of a line, or why the line is refused.
-#[derive(Drop)]
+#[derive(Clone, Copy)]
 pub enum TriedRow {
     Row(Operands),
     Bad(Fault),

@@ -18,7 +18,7 @@ use Rattle.tables.specs.Layout.{names_at, most_atom_rows}
 use Rattle.tables.specs.Decode.{byte_at, word_at, expr_at, left_at, right_at, is_permission, permit_of, rel_of, run, atom_at, atoms_from, atom_place, if_at}
 use Rattle.tables.specs.Tables.{SideFits, AtomFitsAt, Declared}
 use Rattle.tables.specs.Stores.{meaning, put_word, Kept}
-use Rattle.tables.proofs.Bytes.{word-put}
+use Rattle.tables.proofs.BytesRead.{word-put}
 use Rattle.write_rows.specs.Puts.{tag_of, word_of, bytes_of_atom, put_atom, SideBytes}
 use Rattle.write_rows.specs.Holds.{AtomOk, access_of, atom_of, Holds, Building}
 use Rattle.write_rows.proofs.Puts.{put-length, put_same, Clear, put-kept}

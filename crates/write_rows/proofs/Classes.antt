@@ -17,7 +17,7 @@ use Rattle.tables.specs.Layout.{classes_at, places_at, atoms_at, names_at, most_
 use Rattle.tables.specs.Decode.{byte_at, atom_place, class_place, places_place, field_count_at, field_name_at, field_at, fields_from, class_at, run}
 use Rattle.tables.specs.Tables.{Declared, ClassFits, place_at}
 use Rattle.tables.specs.Stores.{Kept}
-use Rattle.tables.proofs.Bytes.{Outside, kept_trans}
+use Rattle.tables.proofs.BytesRead.{Outside, kept_trans}
 use Rattle.write_rows.specs.Puts.{put_bytes, blank, put_class, put_field_at, put_field}
 use Rattle.write_rows.specs.Holds.{Holds}
 use Rattle.write_rows.proofs.Puts.{put-length, put_same, put_other, Clear, put-kept, blank-length, blank-get}

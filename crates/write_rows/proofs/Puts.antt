@@ -10,7 +10,7 @@ use lib.Seq.{get_or-set_same, get_or-set_other}
 use Rattle.tables.specs.Layout.{most_names}
 use Rattle.tables.specs.Decode.{byte_at, half_at, class_place, places_place, field_count_at}
 use Rattle.tables.specs.Stores.{put_byte, put_half, put_word, Kept}
-use Rattle.tables.proofs.Bytes.{Outside}
+use Rattle.tables.proofs.BytesRead.{Outside}
 use Rattle.write_rows.specs.Puts.{put_bytes, half_bytes, word_bytes, blank, put_class, put_field_at, put_field}
 
 pub put-length : (w : List ℕ) (i : ℕ) (bs : List ℕ) → length (put_bytes w i bs) ≡ length w

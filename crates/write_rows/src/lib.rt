@@ -1,4 +1,6 @@
 // The final rows written: atoms, statements, methods, classes, header.
+#![tactic(auto)]
+
 ghost use Rattle.std.specs.Prelude.{◌≡◌, cond, [], ◌∷◌, ◌+◌, ◌*◌, ◌≤◌, ◌<◌, length};
 ghost use Rattle.rules.specs.Limits.{most_statements, most_methods, most_classes, most_fields, work_bytes};
 ghost use Rattle.tables.specs.Numbers.{byte_values, half_values};

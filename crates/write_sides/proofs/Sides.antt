@@ -76,9 +76,9 @@ unfolding Base.opened is_rel is_permit
 no-permit u e =
     of-atom-word (λ u. is_rel u ≡ true → is_permit u ≡ false) (λ e. true-false (sym e)) (λ e. true-false (sym e)) (λ e. true-false (sym e)) (λ e. refl) (λ e. refl) u (rel-begins u e) e
 
-no_access_lem : (u a b : Name) → is_rel u ≡ true → atom_of u a b ≡ cmp (rel_of u) (expr_of a) (expr_of b)
+no_access : (u a b : Name) → is_rel u ≡ true → atom_of u a b ≡ cmp (rel_of u) (expr_of a) (expr_of b)
 unfolding atom_of
-no_access_lem u a b e = rw (no-permit u e)
+no_access u a b e = rw (no-permit u e)
 
 -- THE TESTS OF A LINE THAT HAS ITS FORM
 abbrev pub Formed : Statement → List Name → Type 0
@@ -102,7 +102,7 @@ if-form (u ∷ []) x = true-false (sym x)
 if-form (u ∷ a ∷ []) x = true-false (sym x)
 if-form (u ∷ a ∷ b ∷ ws) x =
     let f = both_true (is_rel u) _ (both_true (eqb (length (u ∷ a ∷ b ∷ ws)) 3) _ x).1 in
-    record { form = (both_true (is_atom u a b) _ f.1).0; compared = no_access_lem u a b f.0 }
+    record { form = (both_true (is_atom u a b) _ f.1).0; compared = no_access u a b f.0 }
 
 module _ (Γ : Declarations) (vs : List Variable) (s : Scope) where
   let-shuffle :

@@ -1,4 +1,6 @@
 // The rows of `let` and `if`, with their one atom.
+#![tactic(auto)]
+
 ghost use Rattle.std.specs.Prelude.{◌≡◌, ◌≤◌, ◌<◌, length};
 ghost use Rattle.rules.specs.Limits.{work_bytes, most_statements};
 ghost use Rattle.rules.specs.Grammar.{Let, If};

@@ -1,0 +1,19 @@
+use mathlib.Core.Path.{refl}
+use native.Mathlib.Omega.{arith}
+use Rattle.bound_walk.specs.Counting.{looked_call}
+use Rattle.bound_walk.proofs.counting.look_call.Goals as goal
+
+pub overflow_add-sum-in-Done : goal.overflow_add-sum-in-Done
+overflow_add-sum-in-Done c = omega (arith, (rw c.in-Done.is at c.requires.1))
+
+pub returns-in-Done : goal.returns-in-Done
+unfolding looked_call
+returns-in-Done c = rw c.in-Done.is cc
+
+pub returns-in-NotVisited : goal.returns-in-NotVisited
+unfolding looked_call
+returns-in-NotVisited c = rw c.in-NotVisited.is refl
+
+pub returns-in-OnRoute : goal.returns-in-OnRoute
+unfolding looked_call
+returns-in-OnRoute c = rw c.in-OnRoute.is refl

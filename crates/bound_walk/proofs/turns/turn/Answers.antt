@@ -1,0 +1,35 @@
+use native.Mathlib.Omega.{arith}
+use Rattle.bound_walk.proofs.Walks.{may-scan, may-leave, may-wait, turn-leaves, turn-stops, turn-waits}
+use Rattle.bound_walk.proofs.turns.turn.Goals as goal
+
+pub scan-s-requires : goal.scan-s-requires
+scan-s-requires c =
+    (c.requires.0, may-scan _ c.requires.0 _ c.requires.1.0 _ (omega (arith, c.requires.1.1)))
+
+pub leave-requires : goal.leave-requires
+leave-requires c =
+    may-leave _ c.requires.0 _ c.requires.1.0 c.requires.1.1 _ c.scan-s.ensures c.in-End.is
+
+pub offset_bounds-marks-c : goal.offset_bounds-marks-c
+offset_bounds-marks-c c =
+    omega (arith, (may-wait _ c.requires.0 _ c.requires.1.0 c.requires.1.1 _ c.scan-s.ensures _ c.in-Wait.is).1)
+
+pub bounds-marks-c : goal.bounds-marks-c
+bounds-marks-c c =
+    (may-wait _ c.requires.0 _ c.requires.1.0 c.requires.1.1 _ c.scan-s.ensures _ c.in-Wait.is).1
+
+pub wait-requires : goal.wait-requires
+wait-requires c =
+    (c.requires.0.size, may-wait _ c.requires.0 _ c.requires.1.0 c.requires.1.1 _ c.scan-s.ensures _ c.in-Wait.is)
+
+pub returns-in-End : goal.returns-in-End
+returns-in-End c =
+    turn-leaves _ c.requires.0 _ c.requires.1.0 c.requires.1.1 _ c.scan-s.ensures _ c.in-End.is c.leave.ensures
+
+pub returns-in-Loop : goal.returns-in-Loop
+returns-in-Loop c =
+    turn-stops _ c.requires.0 _ c.requires.1.0 c.requires.1.1 _ c.scan-s.ensures _ c.in-Loop.is c.stop.ensures
+
+pub returns-in-Wait : goal.returns-in-Wait
+returns-in-Wait c =
+    turn-waits _ c.requires.0 _ c.requires.1.0 c.requires.1.1 _ c.scan-s.ensures _ _ c.in-Wait.is c.wait.ensures

@@ -1,0 +1,16 @@
+use Rattle.check_entailment.proofs.Adding.{own-atom, own-listed}
+use Rattle.check_state.specs.States.{permit_of, state_of}
+use Rattle.check_entailment.proofs.add_own.Goals as goal
+
+pub returns-then-k-eq-READ : goal.returns-then-k-eq-READ
+unfolding permit_of
+returns-then-k-eq-READ c =
+    rw c.if-k-eq-READ.true (own-atom c.args.key.now c.args.b.now _ _ _ _ _ c.add_read.ensures)
+
+pub add_permission-requires : goal.add_permission-requires
+add_permission-requires c = (c.requires.0.fit, c.requires.0.linked.size, c.requires.1)
+
+pub returns : goal.returns
+returns c =
+    own-atom c.args.key.now c.args.b.now _ _ _ _ _
+    (rw (own-listed c.args.k c.args.x c.args.f (state_of c.args.key.now c.args.b.now) c.requires.1 c.if-k-eq-READ.false) at (c.add_permission.ensures _ c.requires.0))

@@ -1,0 +1,11 @@
+use Rattle.check_inequality.proofs.Numbers.{apart-law}
+use mathlib.Core.Path.{◌∙◌}
+use native.Mathlib.Omega.{arith}
+use Rattle.check_inequality.proofs.by_numbers.numbers_apart.Goals as goal
+
+pub different_numbers-requires : goal.different_numbers-requires
+different_numbers-requires c = omega arith
+
+pub returns : goal.returns
+returns c =
+    λ D. c.different_numbers.ensures ∙ apart-law _ _ _ _ _ _ _ c.requires.0 c.requires.1 c.requires.2 c.requires.3 c.requires.4 D

@@ -1,0 +1,18 @@
+use Rattle.check_inequality.proofs.Searches.{null-like}
+use Rattle.rules.specs.State.{null_and_object}
+use mathlib.Core.Path.{sym, ◌∙◌}
+use Rattle.check_inequality.proofs.null_and_object.Goals as goal
+
+pub some_object-requires : goal.some_object-requires
+some_object-requires c =
+    (c.requires.0, c.requires.2, c.requires.3)
+
+pub returns-then-alike : goal.returns-then-alike
+unfolding null_and_object
+returns-then-alike c =
+    λ fs D. rw (null-like c.requires.0 D _ _ c.requires.1 ∙ sym c.alike.ensures ∙ c.if-alike.true) (c.some_object.ensures fs D)
+
+pub returns : goal.returns
+unfolding null_and_object
+returns c =
+    λ fs D. rw (null-like c.requires.0 D _ _ c.requires.1 ∙ sym c.alike.ensures ∙ c.if-alike.false)

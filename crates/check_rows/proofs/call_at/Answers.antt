@@ -1,0 +1,43 @@
+use Rattle.check_rows.proofs.Operands.{call_at}
+use Rattle.check_entailment.specs.Answers.{Adds}
+use Rattle.rules.specs.Answers.{Refusal}
+use Rattle.rules.specs.Base.{Try}
+use mathlib.Core.Path.{subst}
+use native.Mathlib.Omega.{arith}
+use Rattle.rules.specs.State as Rules
+use Rattle.rules.specs.Grammar.{statement_number}
+use Rattle.check_rows.proofs.call_at.Goals as goal
+
+pub x_at-x-requires : goal.x_at-x-requires
+x_at-x-requires c = (c.requires.0.size, omega (arith, c.requires.0.rows, c.requires.1))
+
+pub overflow_cast-x : goal.overflow_cast-x
+overflow_cast-x c = record { fits = c.x_at-x.ensures.1 }
+
+pub y_at-y-requires : goal.y_at-y-requires
+y_at-y-requires c =
+    (c.requires.0.size, omega (arith, c.requires.0.rows, c.requires.1))
+
+pub overflow_cast-y : goal.overflow_cast-y
+overflow_cast-y c = record { fits = c.y_at-y.ensures.1 }
+
+pub z_at-z-requires : goal.z_at-z-requires
+z_at-z-requires c =
+    (c.requires.0.size, omega (arith, c.requires.0.rows, c.requires.1))
+
+pub overflow_cast-z : goal.overflow_cast-z
+overflow_cast-z c = record { fits = c.z_at-z.ensures.1 }
+
+pub member_at-requires : goal.member_at-requires
+member_at-requires c =
+    (c.requires.0.size, omega (arith, c.requires.0.rows, c.requires.1))
+
+pub call_rule-requires : goal.call_rule-requires
+unfolding statement_number
+call_rule-requires c =
+    (c.requires.0, omega (arith, (c.requires.0.row_fits c.args.i c.requires.1).operands.method c.requires.2, c.member_at.ensures.0), c.requires.3)
+
+pub returns : goal.returns
+unfolding statement_number
+returns c =
+    subst (λ (t : Try Refusal Rules.State). Adds t c.call_rule.result c.call_rule.new.1.0 c.call_rule.new.1.1.0) (call_at _ _ _ _ _ _ _ _ _ _ c.x_at-x.ensures.0 c.y_at-y.ensures.0 c.member_at.ensures.0 c.z_at-z.ensures.0 ((c.requires.0.row_fits c.args.i c.requires.1).operands.method c.requires.2)) c.call_rule.ensures

@@ -1,0 +1,32 @@
+use Rattle.check_formulas.proofs.Atoms.{relation}
+use Rattle.check_rows.proofs.Operands.{loop-atoms}
+use mathlib.Core.Path.{subst}
+use native.Mathlib.Omega.{arith}
+use Rattle.rules.specs.Answers.{Refusal}
+use Rattle.rules.specs.Base.{Try}
+use Rattle.rules.specs.State as Rules
+use Rattle.check_entailment.specs.Answers.{Adds}
+use Rattle.check_rows.proofs.loop_at.Goals as goal
+
+pub first_atom_at-a-requires : goal.first_atom_at-a-requires
+first_atom_at-a-requires c = (c.requires.0.size, omega (arith, c.requires.0.rows, c.requires.1))
+
+pub atom_count_at-n-requires : goal.atom_count_at-n-requires
+atom_count_at-n-requires c = (c.requires.0.size, omega (arith, c.requires.0.rows, c.requires.1))
+
+pub overflow_sub-a : goal.overflow_sub-a
+overflow_sub-a c =
+    let l = loop-atoms _ c.requires.0 _ c.requires.1 c.requires.2 in omega (arith, l, c.first_atom_at-a.ensures.0)
+
+pub atom_kind-apart-requires : goal.atom_kind-apart-requires
+atom_kind-apart-requires c =
+    let l = loop-atoms _ c.requires.0 _ c.requires.1 c.requires.2 in
+    (c.requires.0.size, omega (arith, l, c.first_atom_at-a.ensures.0))
+
+pub loop_rule-requires : goal.loop_rule-requires
+loop_rule-requires c =
+    let l = loop-atoms _ c.requires.0 _ c.requires.1 c.requires.2 in (c.requires.0.size, omega (arith, l, c.first_atom_at-a.ensures.0), omega (arith, l, c.first_atom_at-a.ensures.0, c.atom_count_at-n.ensures.0), c.requires.3)
+
+pub returns : goal.returns
+returns c =
+    subst (λ (t : Try Refusal Rules.State). Adds t c.loop_rule.result c.loop_rule.last.1.1.1.1.1.0 c.loop_rule.last.1.1.1.1.1.1.0) (rw (c.atom_kind-apart.ensures.0, relation, c.first_atom_at-a.ensures.0, c.atom_count_at-n.ensures.0)) c.loop_rule.ensures

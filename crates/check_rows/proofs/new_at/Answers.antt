@@ -1,0 +1,29 @@
+use Rattle.check_rows.proofs.Operands.{new-at}
+use Rattle.check_entailment.specs.Answers.{Adds}
+use Rattle.rules.specs.Answers.{Refusal}
+use Rattle.rules.specs.Base.{Try}
+use mathlib.Core.Path.{subst}
+use native.Mathlib.Omega.{arith}
+use Rattle.rules.specs.State as Rules
+use Rattle.rules.specs.Grammar.{statement_number}
+use Rattle.check_rows.proofs.new_at.Goals as goal
+
+pub x_at-x-requires : goal.x_at-x-requires
+x_at-x-requires c = (c.requires.0.size, omega (arith, c.requires.0.rows, c.requires.1))
+
+pub overflow_cast-x : goal.overflow_cast-x
+overflow_cast-x c = record { fits = c.x_at-x.ensures.1 }
+
+pub member_at-requires : goal.member_at-requires
+member_at-requires c =
+    (c.requires.0.size, omega (arith, c.requires.0.rows, c.requires.1))
+
+pub new_rule-requires : goal.new_rule-requires
+unfolding statement_number
+new_rule-requires c =
+    let m = (c.requires.0.row_fits c.args.i c.requires.1).operands.class c.requires.2 in (c.requires.0.size, omega (arith, m, c.member_at.ensures.0, c.requires.0.classes), rw c.member_at.ensures.0 (c.requires.0.class_fits _ m).count, c.requires.3)
+
+pub returns : goal.returns
+unfolding statement_number
+returns c =
+    subst (λ (t : Try Refusal Rules.State). Adds t c.new_rule.result c.new_rule.new.1.0 c.new_rule.new.1.1.0) (new-at _ _ _ _ _ _ c.x_at-x.ensures.0 c.member_at.ensures.0 ((c.requires.0.row_fits c.args.i c.requires.1).operands.class c.requires.2)) c.new_rule.ensures

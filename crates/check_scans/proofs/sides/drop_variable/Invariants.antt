@@ -1,0 +1,10 @@
+use Rattle.std.proofs.Common.{◌-◌, ◌≤◌}
+use Rattle.check_equality.specs.Layout.{left_sides}
+use Rattle.check_scans.specs.Sides.{Dropped, mentions_key}
+use Rattle.check_scans.proofs.sides.drop_variable.Given as goal
+
+abbrev pub invariant-loop-i : goal.invariant-loop-i
+invariant-loop-i l = (left_sides ≤ l.i) × Dropped (mentions_key l.x) l.key l.i l.gone
+
+abbrev pub decreases-loop-i : goal.decreases-loop-i
+decreases-loop-i l = l.m - l.i

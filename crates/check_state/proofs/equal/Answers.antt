@@ -1,0 +1,19 @@
+use Rattle.check_equality.proofs.Labels.{alike}
+use Rattle.rules.specs.State.{equal_in}
+use mathlib.Core.Path.{sym, ◌∙◌}
+use native.Mathlib.Omega.{arith}
+use Rattle.check_state.proofs.equal.Goals as goal
+
+pub overflow_cast-m : goal.overflow_cast-m
+overflow_cast-m c = omega (arith, c.requires.linked.fit, c.requires.fit)
+
+pub overflow_mul-m : goal.overflow_mul-m
+overflow_mul-m c = omega (arith, c.requires.linked.fit, c.requires.fit)
+
+pub overflow_add-m : goal.overflow_add-m
+overflow_add-m c = omega (arith, c.requires.linked.fit, c.requires.fit)
+
+pub returns : goal.returns
+unfolding equal_in
+returns c =
+    c.alike.ensures ∙ sym (alike c.requires.linked.decides (omega (arith, c.requires.linked.fit)) _ _ _ _ c.label_of-x.ensures c.label_of-y.ensures)

@@ -1,0 +1,38 @@
+use Rattle.check_state.proofs.Entries.{own-kinds, resolve-path}
+use Rattle.check_state.specs.Questions.{resolved_as}
+use Rattle.check_state.specs.States.{permissions_of, state_of}
+use Rattle.check_equality.specs.Keys.{meaning}
+use Rattle.rules.specs.Base.{ok}
+use Rattle.rules.specs.Syntax.{same}
+use denote.Enum.Declared.{tag_of}
+use mathlib.Core.List.{List, [], ◌∷◌}
+use mathlib.Core.Path.{◌≡◌, refl, sym, ap, ◌∙◌}
+use types.Run.{OneOf, miss}
+use Rattle.check_equality.specs.declared.Term.{Term}
+use Rattle.check_equality.specs.contracts.Term.{the_type}
+use Rattle.rules.specs.State as Rules
+use Rattle.rules.specs.State.{Permission, Equality, equal_in}
+use Rattle.check_state.proofs.resolve.Goals as goal
+
+-- not a path
+rest : (e : Term) → OneOf (0 ∷ 1 ∷ 2 ∷ []) (tag_of the_type e) → (same : Equality) (ps : List Permission) →
+    ok (meaning e) ≡ Rules.resolve same ps (meaning e)
+unfolding Rules.resolve meaning
+rest (Term.Num n) k same ps = refl
+rest Term.Null k same ps = refl
+rest (Term.Var x) k same ps = refl
+rest (Term.Path x f) k same ps = absurd (miss (0 ∷ 1 ∷ 2 ∷ []) 3 tt k)
+
+pub returns-in_default : goal.returns-in_default
+unfolding resolved_as
+returns-in_default c = ap ok c.key_of.ensures ∙ rest _ c.in_default.in_default-own.keys2 _ _
+
+pub variable_key-k-requires : goal.variable_key-k-requires
+variable_key-k-requires c = tt
+
+pub returns : goal.returns
+unfolding meaning
+returns c =
+    c.path_at.ensures
+    ∙ resolve-path _ _ _ _ _ _ c.requires.kinds c.requires.fit (own-kinds c.args.b.now c.requires.linked.size) (rw c.variable_key-k.ensures.0 at c.listed_entry.ensures)
+    ∙ ap (λ (t : Term). Rules.resolve (equal_in (state_of c.args.key.now c.args.b.now)) (permissions_of c.args.b.now) (meaning t)) (sym c.in-Path.is)

@@ -1,0 +1,28 @@
+use Rattle.check_equality.proofs.Labels.{alike}
+use Rattle.check_equality.specs.Keys.{term_of}
+use Rattle.check_equality.specs.Links.{alike_by}
+use Rattle.rules.specs.State.{Term, representative, equal_by}
+use mathlib.Core.Logic.{inl}
+use mathlib.Core.Path.{refl, sym, ap, ◌∙◌}
+use lib.ListN.{get_or}
+use native.Mathlib.Omega.{arith}
+use borrow.Author.Tests.{ne_eqb}
+use Rattle.check_state.proofs.variable_is.Goals as goal
+
+pub bounds-b-i : goal.bounds-b-i
+bounds-b-i c = omega arith
+
+pub returns-then-x-lt-VARIABLE_COUNT : goal.returns-then-x-lt-VARIABLE_COUNT
+unfolding alike_by
+returns-then-x-lt-VARIABLE_COUNT c =
+    λ fs D.
+    sym
+    (ap (λ (t : Term). equal_by (representative fs) t (term_of c.args.k)) (sym c.variable_key-l.ensures.0)
+    ∙ alike D c.requires.0.most _ (get_or c.args.b.now c.args.x 0) _ _ (inl (record { place = c.args.x; within = omega (arith, c.requires.0.some); is = c.requires.0.header.variables _ c.if-x-lt-VARIABLE_COUNT.true ∙ sym c.variable_key-l.ensures.1; shown = refl })) c.requires.1
+    ∙ rw (ne_eqb (get_or c.args.b.now c.args.x 0) 255 (λ e. omega (arith, e, c.requires.0.most, D.low c.args.x (omega (arith, c.requires.0.some))))))
+
+pub returns : goal.returns
+returns c =
+    λ fs D.
+    c.alike.ensures ∙ sym (alike D c.requires.0.most _ _ _ _ c.label_of-c.ensures c.requires.1)
+    ∙ ap (λ (t : Term). equal_by (representative fs) t (term_of c.args.k)) c.variable_key-l.ensures.0

@@ -1,0 +1,14 @@
+use Prim.Native.Nat.{ℕ}
+use Rattle.check_state.specs.States.{state_of}
+use Rattle.rules.specs.Syntax.{Formula}
+use Rattle.check_statements.proofs.Ruled.{plain, assert-law}
+use Rattle.check_statements.specs.Statements.{Asserts}
+use mathlib.Core.Path.{subst}
+use Rattle.check_statements.proofs.assert_rule.Goals as goal
+
+pub show-requires : goal.show-requires
+show-requires c = (c.requires.0, c.requires.1, c.requires.2, c.kinds-left.ensures)
+
+pub returns : goal.returns
+returns c =
+    subst (λ (φ : Formula ℕ). Asserts φ (state_of c.args.key.now c.args.b.now) c.show.result) (plain _ _ _) (assert-law c.args.key.now c.args.b.now _ _ c.show.new.1.1.1.1.1.1.1.1.0 c.show.ensures.1)

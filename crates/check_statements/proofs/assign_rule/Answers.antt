@@ -1,0 +1,16 @@
+use Rattle.check_entailment.proofs.Showing.{nothing-resolved, key-resolved}
+use Rattle.check_entailment.specs.Answers.{answered}
+use Rattle.check_state.specs.States.{state_of}
+use Rattle.check_statements.proofs.Ruled.{adds_same, adds-no, assign-found, assign-lost}
+use mathlib.Core.Path.{sym, ◌∙◌}
+use Rattle.check_entailment.specs.declared.Answer.{Answer}
+use Rattle.check_statements.proofs.assign_rule.Goals as goal
+
+pub returns-in_default : goal.returns-in_default
+unfolding answered
+returns-in_default c =
+    adds-no Answer.Unresolved _ _ c.requires _ (assign-lost _ _ (state_of c.args.key.now c.args.b.now) (sym c.resolve.ensures ∙ nothing-resolved _ c.in_default.is))
+
+pub returns : goal.returns
+returns c =
+    adds_same _ _ _ _ _ (sym (assign-found _ _ _ (state_of c.args.key.now c.args.b.now) (sym c.resolve.ensures ∙ key-resolved _ _ c.in-Key.is))) c.assign_key.ensures

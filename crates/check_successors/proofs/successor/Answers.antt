@@ -1,0 +1,63 @@
+use native.Mathlib.Omega.{arith}
+use mathlib.Core.Path.{sym, ap, ◌∙◌}
+use mathlib.Core.Option.{some}
+use Rattle.check_equality.proofs.Keys.{of-null}
+use Rattle.check_inequality.proofs.Searches.{null-like}
+use Rattle.check_successors.specs.Successors.{term_or}
+use Rattle.check_successors.proofs.InOrder.{slots, is-variable, is-path, is-null, is_number, key-number, key-none}
+use Rattle.check_successors.proofs.successor.Goals as goal
+
+pub returns-then-v-lt-VARIABLE_COUNT : goal.returns-then-v-lt-VARIABLE_COUNT
+unfolding term_or
+returns-then-v-lt-VARIABLE_COUNT c =
+    λ ρ ps W.
+    ap some c.variable_key.ensures.0
+    ∙ is-variable c.args.key.now c.args.b.now c.args.skip.now c.args.x c.args.t ρ ps W
+    c.first_variable-v.result (c.first_variable-v.ensures _ c.requires.0.linked.decides) c.if-v-lt-VARIABLE_COUNT.true
+
+pub returns-then-i-p : goal.returns-then-i-p
+unfolding term_or
+returns-then-i-p c =
+    λ ρ ps W.
+    ap some c.path_key.ensures.0
+    ∙ is-path c.args.key.now c.args.b.now c.args.skip.now c.args.x c.args.t ρ ps W
+    c.first_variable-v.result (c.first_variable-v.ensures _ c.requires.0.linked.decides) c.if-v-lt-VARIABLE_COUNT.false c.first_entry-i.result
+    (c.first_entry-i.ensures _ c.requires.0.linked.decides) c.if-i-p.true
+
+pub returns-then-alike : goal.returns-then-alike
+unfolding term_or
+returns-then-alike c =
+    λ ρ ps W.
+    ap some of-null
+    ∙ is-null c.args.key.now c.args.b.now c.args.skip.now c.args.x c.args.t ρ ps W
+    c.first_variable-v.result (c.first_variable-v.ensures _ c.requires.0.linked.decides) c.if-v-lt-VARIABLE_COUNT.false c.first_entry-i.result
+    (c.first_entry-i.ensures _ c.requires.0.linked.decides) c.if-i-p.false
+    (null-like (slots c.requires.0) c.requires.0.linked.decides _ _ c.requires.1 ∙ sym c.alike.ensures ∙ c.if-alike.true)
+
+pub least_number-k-requires : goal.least_number-k-requires
+least_number-k-requires c =
+    (slots c.requires.0, c.requires.1, omega arith)
+
+pub returns-then-k-lt-FIRST_NUMBER : goal.returns-then-k-lt-FIRST_NUMBER
+unfolding term_or
+returns-then-k-lt-FIRST_NUMBER c =
+    λ ρ ps W.
+    key-none c.least_number-k.result c.if-k-lt-FIRST_NUMBER.true
+    ∙ is_number c.args.key.now c.args.b.now c.args.skip.now c.args.x c.args.t ρ ps W
+    c.first_variable-v.result (c.first_variable-v.ensures _ c.requires.0.linked.decides) c.if-v-lt-VARIABLE_COUNT.false c.first_entry-i.result
+    (c.first_entry-i.ensures _ c.requires.0.linked.decides) c.if-i-p.false
+    (null-like (slots c.requires.0) c.requires.0.linked.decides _ _ c.requires.1 ∙ sym c.alike.ensures ∙ c.if-alike.false)
+    c.least_number-k.result
+    (c.least_number-k.ensures _ c.requires.0.linked.decides)
+
+pub returns : goal.returns
+unfolding term_or
+returns c =
+    λ ρ ps W.
+    key-number c.least_number-k.result c.if-k-lt-FIRST_NUMBER.false
+    ∙ is_number c.args.key.now c.args.b.now c.args.skip.now c.args.x c.args.t ρ ps W
+    c.first_variable-v.result (c.first_variable-v.ensures _ c.requires.0.linked.decides) c.if-v-lt-VARIABLE_COUNT.false c.first_entry-i.result
+    (c.first_entry-i.ensures _ c.requires.0.linked.decides) c.if-i-p.false
+    (null-like (slots c.requires.0) c.requires.0.linked.decides _ _ c.requires.1 ∙ sym c.alike.ensures ∙ c.if-alike.false)
+    c.least_number-k.result
+    (c.least_number-k.ensures _ c.requires.0.linked.decides)

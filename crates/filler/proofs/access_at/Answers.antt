@@ -1,0 +1,31 @@
+use native.Mathlib.Omega.{arith}
+use Rattle.filler.proofs.Choosing.{of-this, of-parameter, this-small, parameter-small}
+use Rattle.filler.proofs.access_at.Goals as goal
+
+pub overflow_sub-p : goal.overflow_sub-p
+overflow_sub-p c =
+    omega (arith, c.requires.1)
+
+pub field_name_at-requires : goal.field_name_at-requires
+field_name_at-requires c =
+    (c.requires.0.spared.tables.size, this-small _ _ c.requires.0 _ c.requires.1 c.if-p-s.true)
+
+pub returns-then-p-s : goal.returns-then-p-s
+returns-then-p-s c =
+    of-this _ _ c.requires.0 _ c.requires.1 _ c.if-p-s.true c.field_name_at.ensures.0
+
+pub overflow_sub-p-2 : goal.overflow_sub-p-2
+overflow_sub-p-2 c =
+    omega (arith, c.if-p-s.false)
+
+pub overflow_sub-p-3 : goal.overflow_sub-p-3
+overflow_sub-p-3 c =
+    omega (arith, c.if-p-s.false)
+
+pub field_name_at-requires-2 : goal.field_name_at-requires-2
+field_name_at-requires-2 c =
+    (c.requires.0.spared.tables.size, parameter-small _ _ c.requires.0 _ c.requires.1 c.if-p-s.false c.requires.2)
+
+pub returns : goal.returns
+returns c =
+    of-parameter _ _ c.requires.0 _ c.requires.1 _ c.if-p-s.false c.requires.2 c.field_name_at-2.ensures.0

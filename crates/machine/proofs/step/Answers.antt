@@ -1,0 +1,153 @@
+use mathlib.Core.Path.{sym, ◌∙◌}
+use Rattle.machine.proofs.Stepping as Stepping
+use mathlib.Core.Logic.{inl, inr, ⊎_elim}
+use Rattle.run_steps.proofs.Doing.{fits}
+use Rattle.rules.specs.Grammar.{statement_number}
+use native.Mathlib.Omega.{arith}
+use borrow.Author.Rules.{rules}
+use Rattle.machine.proofs.step.Goals as goal
+
+pub set_step-requires : goal.set_step-requires
+unfolding statement_number
+set_step-requires c =
+    search rules
+
+pub let_step-requires : goal.let_step-requires
+unfolding statement_number
+let_step-requires c =
+    search rules
+
+pub new_step-requires : goal.new_step-requires
+unfolding statement_number
+new_step-requires c =
+    search rules
+
+pub call_step-requires : goal.call_step-requires
+unfolding statement_number
+call_step-requires c =
+    search rules
+
+pub assert_step-requires : goal.assert_step-requires
+unfolding statement_number
+assert_step-requires c =
+    (c.requires.0, ⊎_elim (λ e z. omega (arith, e, z, c.kind_at.ensures)) (λ e z. omega (arith, e, z, c.kind_at.ensures)) c.in-13.is)
+
+pub release_step-requires : goal.release_step-requires
+unfolding statement_number
+release_step-requires c =
+    search rules
+
+pub if_step-requires : goal.if_step-requires
+unfolding statement_number
+if_step-requires c =
+    search rules
+
+pub loop_step-requires : goal.loop_step-requires
+unfolding statement_number
+loop_step-requires c =
+    search rules
+
+pub jump_step-requires : goal.jump_step-requires
+unfolding statement_number
+jump_step-requires c =
+    (c.requires.0, ⊎_elim (λ e. inl (sym c.kind_at.ensures ∙ e)) (λ e. inr (sym c.kind_at.ensures ∙ e)) c.in-16.is)
+
+pub open_step-requires : goal.open_step-requires
+unfolding statement_number
+open_step-requires c =
+    search rules
+
+pub shut_step-requires : goal.shut_step-requires
+unfolding statement_number
+shut_step-requires c =
+    search rules
+
+pub compute_step-requires : goal.compute_step-requires
+compute_step-requires c =
+    let t =
+    Stepping.is-computing _ (fits c.requires.0).kind (λ z. c.in_default-1.rest.0.0.0.0.0.0.0.0.0.0.0.1 (c.kind_at.ensures ∙ z)) (λ z. c.in_default-1.rest.0.0.0.0.0.0.0.0.0.0.1 (c.kind_at.ensures ∙ z))
+    (λ z. c.in_default-1.rest.0.0.0.0.0.0.0.0.0.1 (c.kind_at.ensures ∙ z)) (λ z. c.in_default-1.rest.0.0.0.0.0.0.0.0.1 (c.kind_at.ensures ∙ z)) (λ z. c.in_default-1.rest.0.0.0.0.0.0.0.1 (inl (c.kind_at.ensures ∙ z)))
+    (λ o. c.in_default-1.rest.0.0.0.0.0.0.1 (⊎_elim (λ z. inl (c.kind_at.ensures ∙ z)) (λ z. inr (c.kind_at.ensures ∙ z)) o)) (λ z. c.in_default-1.rest.0.0.0.0.0.1 (c.kind_at.ensures ∙ z))
+    (λ z. c.in_default-1.rest.0.0.0.0.1 (c.kind_at.ensures ∙ z)) (λ z. c.in_default-1.rest.0.0.0.1 (c.kind_at.ensures ∙ z))
+    (λ o. c.in_default-1.rest.0.0.1 (⊎_elim (λ z. inl (c.kind_at.ensures ∙ z)) (λ z. inr (c.kind_at.ensures ∙ z)) o)) (λ z. c.in_default-1.rest.0.1 (c.kind_at.ensures ∙ z)) (λ z. c.in_default-1.rest.1 (c.kind_at.ensures ∙ z)) (λ z. c.in_default-1.rest.0.0.0.0.0.0.0.1 (inr (c.kind_at.ensures ∙ z))) in
+    (c.requires.0, t)
+
+pub returns-in-8 : goal.returns-in-8
+unfolding statement_number
+returns-in-8 c =
+    Stepping.does-as (Stepping.set_is _ (sym c.kind_at.ensures ∙ c.in-8.is)) c.set_step.ensures
+
+pub returns-in-9 : goal.returns-in-9
+unfolding statement_number
+returns-in-9 c =
+    Stepping.does-as (Stepping.let-is _ (sym c.kind_at.ensures ∙ c.in-9.is)) c.let_step.ensures
+
+pub returns-in-10 : goal.returns-in-10
+unfolding statement_number
+returns-in-10 c =
+    Stepping.does-as (Stepping.new_is _ c.requires.0 (sym c.kind_at.ensures ∙ c.in-10.is)) c.new_step.ensures
+
+pub returns-in-11 : goal.returns-in-11
+unfolding statement_number
+returns-in-11 c =
+    Stepping.does-as (Stepping.call-is _ c.requires.0 (sym c.kind_at.ensures ∙ c.in-11.is)) c.call_step.ensures
+
+pub returns-in-12 : goal.returns-in-12
+unfolding statement_number
+returns-in-12 c =
+    Stepping.does-as (Stepping.back_is _ (⊎_elim (λ e. inl (sym c.kind_at.ensures ∙ e)) (λ e. inr (sym c.kind_at.ensures ∙ e)) c.in-12.is)) c.back_step.ensures
+
+pub returns-in-13 : goal.returns-in-13
+unfolding statement_number
+returns-in-13 c =
+    Stepping.does-as (Stepping.assert-is _ (⊎_elim (λ e. inl (sym c.kind_at.ensures ∙ e)) (λ e. inr (sym c.kind_at.ensures ∙ e)) c.in-13.is)) c.assert_step.ensures
+
+pub returns-in-14 : goal.returns-in-14
+unfolding statement_number
+returns-in-14 c =
+    Stepping.does-as (Stepping.release-is _ (sym c.kind_at.ensures ∙ c.in-14.is)) c.release_step.ensures
+
+pub returns-in-15 : goal.returns-in-15
+unfolding statement_number
+returns-in-15 c =
+    Stepping.does-as (Stepping.if-is _ (sym c.kind_at.ensures ∙ c.in-15.is)) c.if_step.ensures
+
+pub returns-in-21 : goal.returns-in-21
+unfolding statement_number
+returns-in-21 c =
+    Stepping.does-as (Stepping.loop-is _ (sym c.kind_at.ensures ∙ c.in-21.is)) c.loop_step.ensures
+
+pub returns-in-16 : goal.returns-in-16
+unfolding statement_number
+returns-in-16 c =
+    Stepping.does-as (Stepping.jump-is _ (⊎_elim (λ e. inl (sym c.kind_at.ensures ∙ e)) (λ e. inr (sym c.kind_at.ensures ∙ e)) c.in-16.is)) c.jump_step.ensures
+
+pub returns-in-23 : goal.returns-in-23
+unfolding statement_number
+returns-in-23 c =
+    Stepping.does-as (Stepping.open_is _ (sym c.kind_at.ensures ∙ c.in-23.is)) c.open_step.ensures
+
+pub returns-in-24 : goal.returns-in-24
+unfolding statement_number
+returns-in-24 c =
+    Stepping.does-as (Stepping.shut-is _ (sym c.kind_at.ensures ∙ c.in-24.is)) c.shut_step.ensures
+
+pub returns-in-19 : goal.returns-in-19
+returns-in-19 c =
+    let t =
+    Stepping.is-computing _ (fits c.requires.0).kind (λ z. c.in_default-1.rest.0.0.0.0.0.0.0.0.0.0.0.1 (c.kind_at.ensures ∙ z)) (λ z. c.in_default-1.rest.0.0.0.0.0.0.0.0.0.0.1 (c.kind_at.ensures ∙ z))
+    (λ z. c.in_default-1.rest.0.0.0.0.0.0.0.0.0.1 (c.kind_at.ensures ∙ z)) (λ z. c.in_default-1.rest.0.0.0.0.0.0.0.0.1 (c.kind_at.ensures ∙ z)) (λ z. c.in_default-1.rest.0.0.0.0.0.0.0.1 (inl (c.kind_at.ensures ∙ z)))
+    (λ o. c.in_default-1.rest.0.0.0.0.0.0.1 (⊎_elim (λ z. inl (c.kind_at.ensures ∙ z)) (λ z. inr (c.kind_at.ensures ∙ z)) o)) (λ z. c.in_default-1.rest.0.0.0.0.0.1 (c.kind_at.ensures ∙ z))
+    (λ z. c.in_default-1.rest.0.0.0.0.1 (c.kind_at.ensures ∙ z)) (λ z. c.in_default-1.rest.0.0.0.1 (c.kind_at.ensures ∙ z))
+    (λ o. c.in_default-1.rest.0.0.1 (⊎_elim (λ z. inl (c.kind_at.ensures ∙ z)) (λ z. inr (c.kind_at.ensures ∙ z)) o)) (λ z. c.in_default-1.rest.0.1 (c.kind_at.ensures ∙ z)) (λ z. c.in_default-1.rest.1 (c.kind_at.ensures ∙ z)) (λ z. c.in_default-1.rest.0.0.0.0.0.0.0.1 (inr (c.kind_at.ensures ∙ z))) in
+    Stepping.does-as (Stepping.compute-is _ t) c.compute_step.ensures
+
+pub returns-in-0-to-7 : goal.returns-in-0-to-7
+returns-in-0-to-7 c =
+    absurd (omega (arith, c.kind_at.ensures, c.in-0-to-7.if-this-lt8-own.true, (fits c.requires.0).kind.0))
+
+pub returns-in-0-to-7-2 : goal.returns-in-0-to-7-2
+returns-in-0-to-7-2 c =
+    absurd
+    (Stepping.past_all _ (fits c.requires.0).kind (omega (arith, c.kind_at.ensures, c.in-0-to-7.if-this-lt21-own.false))
+    (λ z. c.in_default-1.rest.0.0.0.1 (c.kind_at.ensures ∙ z)) (λ o. c.in_default-1.rest.0.0.1 (⊎_elim (λ z. inl (c.kind_at.ensures ∙ z)) (λ z. inr (c.kind_at.ensures ∙ z)) o)) (λ z. c.in_default-1.rest.0.1 (c.kind_at.ensures ∙ z)) (λ z. c.in_default-1.rest.1 (c.kind_at.ensures ∙ z)))

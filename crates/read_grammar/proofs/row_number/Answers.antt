@@ -1,0 +1,107 @@
+use native.Mathlib.Omega.{arith}
+use Rattle.rules.specs.Base as Base
+use Rattle.rules.specs.Grammar as Grammar
+use Rattle.rules.specs.Places.{stage_number}
+use Rattle.read_words.specs.Words as Words
+use Rattle.read_grammar.specs.Rows as Rows
+use mathlib.Core.Path.{◌≡◌}
+use Rattle.read_grammar.proofs.Rows.{passed}
+use Rattle.read_grammar.proofs.row_number.Goals as goal
+
+-- `row_number` meets its contract, kind by kind. Assumes nothing.
+pub returns-in-1 : goal.returns-in-1
+unfolding Rows.opened Words.opened Grammar.opened Base.opened stage_number
+returns-in-1 c = rw c.in-1.is
+
+pub returns-in-2 : goal.returns-in-2
+unfolding Rows.opened Words.opened Grammar.opened Base.opened stage_number
+returns-in-2 c = rw c.in-2.is
+
+pub returns-in-3 : goal.returns-in-3
+unfolding Rows.opened Words.opened Grammar.opened Base.opened stage_number
+returns-in-3 c = rw c.in-3.is
+
+pub returns-in-4 : goal.returns-in-4
+unfolding Rows.opened Words.opened Grammar.opened Base.opened stage_number
+returns-in-4 c = rw c.in-4.is
+
+pub returns-in-5 : goal.returns-in-5
+unfolding Rows.opened Words.opened Grammar.opened Base.opened stage_number
+returns-in-5 c = rw c.in-5.is
+
+pub returns-in-6 : goal.returns-in-6
+unfolding Rows.opened Words.opened Grammar.opened Base.opened stage_number
+returns-in-6 c = rw c.in-6.is
+
+pub returns-in-7 : goal.returns-in-7
+unfolding Rows.opened Words.opened Grammar.opened Base.opened stage_number
+returns-in-7 c = rw c.in-7.is
+
+pub returns-in-8 : goal.returns-in-8
+unfolding Rows.opened Words.opened Grammar.opened Base.opened stage_number
+returns-in-8 c = rw c.in-8.is
+
+pub returns-in-9 : goal.returns-in-9
+unfolding Rows.opened Words.opened Grammar.opened Base.opened stage_number
+returns-in-9 c = rw c.in-9.is
+
+pub returns-in-10 : goal.returns-in-10
+unfolding Rows.opened Words.opened Grammar.opened Base.opened stage_number
+returns-in-10 c = rw c.in-10.is
+
+pub returns-in-11 : goal.returns-in-11
+unfolding Rows.opened Words.opened Grammar.opened Base.opened stage_number
+returns-in-11 c = rw c.in-11.is
+
+pub returns-in-12 : goal.returns-in-12
+unfolding Rows.opened Words.opened Grammar.opened Base.opened stage_number
+returns-in-12 c = rw c.in-12.is
+
+pub returns-in-13 : goal.returns-in-13
+unfolding Rows.opened Words.opened Grammar.opened Base.opened stage_number
+returns-in-13 c = rw c.in-13.is
+
+pub returns-in-14 : goal.returns-in-14
+unfolding Rows.opened Words.opened Grammar.opened Base.opened stage_number
+returns-in-14 c = rw c.in-14.is
+
+pub returns-in-15 : goal.returns-in-15
+unfolding Rows.opened Words.opened Grammar.opened Base.opened stage_number
+returns-in-15 c = rw c.in-15.is
+
+pub returns-in-16 : goal.returns-in-16
+unfolding Rows.opened Words.opened Grammar.opened Base.opened stage_number
+returns-in-16 c = rw c.in-16.is
+
+pub returns-in-17 : goal.returns-in-17
+unfolding Rows.opened Words.opened Grammar.opened Base.opened stage_number
+returns-in-17 c = rw c.in-17.is
+
+pub returns-in-18 : goal.returns-in-18
+unfolding Rows.opened Words.opened Grammar.opened Base.opened stage_number
+returns-in-18 c = rw c.in-18.is
+
+pub returns-in-19 : goal.returns-in-19
+unfolding Rows.opened Words.opened Grammar.opened Base.opened stage_number
+returns-in-19 c = rw c.in-19.is
+
+pub returns-in-20 : goal.returns-in-20
+unfolding Rows.opened Words.opened Grammar.opened Base.opened stage_number
+returns-in-20 c = rw c.in-20.is
+
+pub returns-in-21 : goal.returns-in-21
+unfolding Rows.opened Words.opened Grammar.opened Base.opened stage_number
+returns-in-21 c = rw c.in-21.is
+
+pub returns-in-22 : goal.returns-in-22
+unfolding Rows.opened Words.opened Grammar.opened Base.opened stage_number
+returns-in-22 c = rw c.in-22.is
+
+pub returns-in-23 : goal.returns-in-23
+unfolding Rows.opened Words.opened Grammar.opened Base.opened stage_number
+returns-in-23 c = rw c.in-23.is
+
+pub returns-in_default : goal.returns-in_default
+unfolding Rows.opened Words.opened Grammar.opened Base.opened stage_number
+returns-in_default c =
+    let e : c.args.kind ≡ 24 = omega (arith, passed 23 c.args.kind c.requires.0 c.in_default.in_default-own.rest) in rw e

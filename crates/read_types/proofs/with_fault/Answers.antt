@@ -1,0 +1,14 @@
+use mathlib.Core.Path.{ap}
+use Rattle.read_types.specs.declared.Verdict.{Verdict}
+use Rattle.read_types.specs.Verdicts.{lower}
+use Rattle.read_types.proofs.with_fault.Goals as goal
+
+pub returns-in-Good : goal.returns-in-Good
+unfolding lower
+returns-in-Good c =
+    rw c.in-Good.is
+
+pub returns-in-Bad : goal.returns-in-Bad
+unfolding lower
+returns-in-Bad c =
+    rw c.in-Bad.is (ap Verdict.Bad c.lower_fault.ensures)

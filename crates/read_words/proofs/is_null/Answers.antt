@@ -1,0 +1,17 @@
+use Rattle.read_bytes.proofs.Search.{not_same}
+use Rattle.read_words.proofs.Words.{spelled}
+use Rattle.rules.specs.Base.{bytes}
+use lib.ListN.{length}
+use mathlib.Core.Path.{refl, sym, ap}
+use native.Mathlib.Omega.{arith}
+use Rattle.rules.specs.Base as Base
+use Rattle.read_words.specs.Words as Words
+use Rattle.read_words.proofs.is_null.Goals as goal
+
+pub returns-then-w-ne-NULL_BYTES : goal.returns-then-w-ne-NULL_BYTES
+unfolding Base.opened Words.opened
+returns-then-w-ne-NULL_BYTES c = sym (not_same (bytes "null") c.args.w.now (λ e. c.if-w-ne-NULL_BYTES.true (ap length (sym e))))
+
+pub returns : goal.returns
+unfolding Base.opened Words.opened
+returns c = rw c.pack.ensures (spelled c.args.w.now (bytes "null") c.if-w-ne-NULL_BYTES.false (λ i. omega (arith, c.type_inv.w i)) refl)

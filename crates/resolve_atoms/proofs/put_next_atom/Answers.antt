@@ -1,0 +1,71 @@
+use mathlib.Core.Path.{ap, ◌∙◌}
+use native.Mathlib.Omega.{arith}
+use Rattle.read_atoms.specs.Atoms.{begun_by}
+use Rattle.write_rows.proofs.Atoms.{side_bytes}
+use Rattle.resolve_atoms.proofs.Formulas.{word-ends, word_cut, some-2, some-3, kind-atom, kind-tried, next-put, next-bad, row_ok}
+use Rattle.resolve_atoms.proofs.put_next_atom.Goals as goal
+
+pub overflow_add-x-2 : goal.overflow_add-x-2
+overflow_add-x-2 c =
+    let word = word-ends c.requires.1 _ (c.begun_by-kind.ensures ∙ ap begun_by c.byte_at.ensures) _ c.row_of-row.ensures in
+    omega (arith, word.high)
+
+pub next_field-y-requires : goal.next_field-y-requires
+next_field-y-requires c =
+    let word = word-ends c.requires.1 _ (c.begun_by-kind.ensures ∙ ap begun_by c.byte_at.ensures) _ c.row_of-row.ensures in
+    word.high
+
+pub slice_bounds-resolve_atom-count : goal.slice_bounds-resolve_atom-count
+slice_bounds-resolve_atom-count c =
+    let word = word-ends c.requires.1 _ (c.begun_by-kind.ensures ∙ ap begun_by c.byte_at.ensures) _ c.row_of-row.ensures in
+    omega (arith, c.next_field-y.ensures.low, some-2 word c.next_field-y.ensures c.next_field-z.ensures c.requires.1.byte _ c.requires.1.form)
+
+pub slice_bounds-resolve_atom-start : goal.slice_bounds-resolve_atom-start
+slice_bounds-resolve_atom-start c =
+    let word = word-ends c.requires.1 _ (c.begun_by-kind.ensures ∙ ap begun_by c.byte_at.ensures) _ c.row_of-row.ensures in
+    omega (arith, c.next_field-y.ensures.low, some-2 word c.next_field-y.ensures c.next_field-z.ensures c.requires.1.byte _ c.requires.1.form)
+
+pub slice_bounds-resolve_atom-count-2 : goal.slice_bounds-resolve_atom-count-2
+slice_bounds-resolve_atom-count-2 c =
+    let word = word-ends c.requires.1 _ (c.begun_by-kind.ensures ∙ ap begun_by c.byte_at.ensures) _ c.row_of-row.ensures in
+    omega (arith, c.next_field-z.ensures.low, some-3 word c.next_field-y.ensures c.next_field-z.ensures c.requires.1.byte _ c.requires.1.form)
+
+pub slice_bounds-resolve_atom-start-2 : goal.slice_bounds-resolve_atom-start-2
+slice_bounds-resolve_atom-start-2 c =
+    let word = word-ends c.requires.1 _ (c.begun_by-kind.ensures ∙ ap begun_by c.byte_at.ensures) _ c.row_of-row.ensures in
+    omega (arith, c.next_field-z.ensures.low, some-3 word c.next_field-y.ensures c.next_field-z.ensures c.requires.1.byte _ c.requires.1.form)
+
+pub resolve_atom-t-requires : goal.resolve_atom-t-requires
+resolve_atom-t-requires c =
+    let kind = c.begun_by-kind.ensures ∙ ap begun_by c.byte_at.ensures in
+    let word = word-ends c.requires.1 _ kind _ c.row_of-row.ensures in
+    (c.requires.0, kind-atom word c.next_field-y.ensures c.next_field-z.ensures c.requires.1.byte _ c.requires.1.form _ (word_cut c.requires.1 _ kind _ c.row_of-row.ensures))
+
+pub put_atom-requires : goal.put_atom-requires
+put_atom-requires c =
+    let o = row_ok _ _ _ _ _ c.resolve_atom-t.ensures c.in-Row.is in
+    ((c.requires.0.whole, c.requires.2), (omega (arith, o.kind), (side_bytes _ o.left, side_bytes _ o.right)))
+
+pub returns-in-Bad : goal.returns-in-Bad
+returns-in-Bad c =
+    let kind = c.begun_by-kind.ensures ∙ ap begun_by c.byte_at.ensures in
+    let word = word-ends c.requires.1 _ kind _ c.row_of-row.ensures in
+    let tried =
+    kind-tried word c.next_field-y.ensures c.next_field-z.ensures
+    c.requires.1.byte _ c.requires.1.form _ (word_cut c.requires.1 _ kind _ c.row_of-row.ensures) _ _ _
+    c.resolve_atom-t.ensures in
+    next-bad word c.next_field-y.ensures c.next_field-z.ensures c.requires.1.byte _ c.requires.1.form _ _ _ _ _ tried c.in-Bad.is
+
+pub returns-in-Row : goal.returns-in-Row
+returns-in-Row c =
+    let kind = c.begun_by-kind.ensures ∙ ap begun_by c.byte_at.ensures in
+    let word = word-ends c.requires.1 _ kind _ c.row_of-row.ensures in
+    let tried =
+    kind-tried word c.next_field-y.ensures
+    c.next_field-z.ensures
+    c.requires.1.byte _ c.requires.1.form _ (word_cut c.requires.1 _ kind _
+    c.row_of-row.ensures) _ _ _
+    c.resolve_atom-t.ensures in
+    next-put word c.next_field-y.ensures
+    c.next_field-z.ensures
+    c.requires.1.byte _ c.requires.1.form _ _ c.requires.0 _ _ _ _ c.requires.2 tried c.in-Row.is c.put_atom.ensures

@@ -1,0 +1,18 @@
+use mathlib.Core.Path.{sym, ap, ◌∙◌}
+use mathlib.Core.Bool.{not, ◌&&◌}
+use Rattle.resolve_pass.specs.Passes.{seen_by}
+use Rattle.resolve_bodies.proofs.Items.{seen-result}
+use Rattle.resolve_bodies.proofs.seen.Goals as goal
+
+pub returns : goal.returns
+unfolding seen_by
+returns c =
+    let e = c.unless-result.ensures ∙ ap (λ b. c.args.c.method && not b) (sym (seen-result c.args.kind c.requires)) in
+    λ j. record {
+      classes = c.args.c.classes;
+      fields = c.args.c.fields;
+      methods = c.args.c.methods;
+      method = c.args.c.method;
+      locals = c.args.c.locals;
+      result = e j;
+    }

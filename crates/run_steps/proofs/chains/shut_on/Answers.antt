@@ -1,0 +1,28 @@
+use mathlib.Core.Path.{refl}
+use Rattle.run_heap.proofs.Reading.{read-got, read-lacking}
+use Rattle.run_steps.proofs.Doing.{size, frames-fit, view-readable, shut-operands, shut-small, shut-walked, shut-walk-stops}
+use Rattle.run_steps.proofs.chains.shut_on.Goals as goal
+
+pub view_of-v-requires : goal.view_of-v-requires
+view_of-v-requires c =
+    frames-fit c.requires.ready
+
+pub cell_value-requires : goal.cell_value-requires
+cell_value-requires c =
+    (size c.requires.ready, shut-small c.requires)
+
+pub walk-requires : goal.walk-requires
+walk-requires c =
+    (view-readable c.requires.ready c.view_of-v.ensures, (shut-operands c.requires.ready c.requires.at_shut _ _ refl c.requires.field).1)
+
+pub shut_whole-requires : goal.shut_whole-requires
+shut_whole-requires c =
+    shut-walked c.requires _ _ c.view_of-v.ensures c.cell_value.ensures _ (read-got _ _ c.in-Got.is c.walk.ensures)
+
+pub returns-in-Got : goal.returns-in-Got
+returns-in-Got c =
+    c.shut_whole.ensures
+
+pub returns-in-Lacking : goal.returns-in-Lacking
+returns-in-Lacking c =
+    shut-walk-stops c.requires _ _ c.view_of-v.ensures c.cell_value.ensures _ (read-lacking _ _ c.in-Lacking.is c.walk.ensures)

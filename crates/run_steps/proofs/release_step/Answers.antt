@@ -1,0 +1,16 @@
+use mathlib.Core.Path.{◌∙◌}
+use Rattle.run_steps.proofs.Doing.{view-readable, release-fit, release-does, release-stops}
+use Rattle.run_footprint.proofs.Taking.{took-shares, took-lacking, count-shares}
+use Rattle.run_steps.proofs.release_step.Goals as goal
+
+pub mark-requires : goal.mark-requires
+mark-requires c =
+    let t = took-shares _ _ _ c.in-Shares.is c.row_footprint.ensures.took in ((view-readable c.requires.0 c.view_of.ensures, (count-shares _ _ _ c.in-Shares.is c.row_footprint.ensures.count, c.row_footprint.ensures.size)), release-fit c.requires.0 _ _ c.view_of.ensures t)
+
+pub returns-in-Shares : goal.returns-in-Shares
+returns-in-Shares c =
+    release-does c.requires.0 _ c.requires.1 (took-shares _ _ _ c.in-Shares.is c.row_footprint.ensures.took) (c.mark.ensures ∙ rw c.view_of.ensures) c.next.ensures
+
+pub returns-in-Lacking : goal.returns-in-Lacking
+returns-in-Lacking c =
+    release-stops c.requires.0 _ (took-lacking _ _ _ c.in-Lacking.is c.row_footprint.ensures.took)

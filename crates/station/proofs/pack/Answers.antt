@@ -1,0 +1,7 @@
+use mathlib.Core.Path.{refl}
+use Rattle.rules.specs.Areas.{packed}
+use Rattle.station.proofs.pack.Goals as goal
+
+pub returns : goal.returns
+unfolding packed
+returns c = refl

@@ -1,0 +1,25 @@
+use mathlib.Core.Path.{sym, ap, ◌∙◌}
+use borrow.Author.Rules.{rules}
+use borrow.Author.Tests.{not-true, not-false}
+use Rattle.station.specs.Station.{run_numbers}
+use Rattle.station.proofs.Texts.{found-run, fits-as, run_fits}
+use Rattle.station.proofs.Calls.{fit-lengths, wrong-areas, right-areas}
+use Rattle.station.proofs.run.Goals as goal
+
+pub returns-then-not-fit : goal.returns-then-not-fit
+returns-then-not-fit c = wrong-areas _ _ _ (sym c.fit.ensures ∙ c.if-not-fit.true)
+
+pub check_text-found-requires : goal.check_text-found-requires
+check_text-found-requires c = (fit-lengths _ _ (sym c.fit.ensures ∙ c.if-not-fit.false)).0
+
+pub run_found-f-requires : goal.run_found-f-requires
+run_found-f-requires c =
+    (λ z. (c.check_text-found.ensures.taken z).1.tables, search rules, c.check_text-found.ensures.size, (fit-lengths _ _ (sym c.fit.ensures ∙ c.if-not-fit.false)).1)
+
+pub pack-requires : goal.pack-requires
+pack-requires c =
+    fits-as (c.run_found-f.ensures.0 ∙ ap run_numbers (found-run c.args.steps c.check_text-found.ensures)) (run_fits _ c.args.steps (search rules))
+
+pub returns : goal.returns
+returns c =
+    right-areas _ _ _ (sym c.fit.ensures ∙ c.if-not-fit.false) (found-run c.args.steps c.check_text-found.ensures) _ c.run_found-f.ensures.0 c.run_found-f.ensures.1 c.run_found-f.ensures.2 c.clear.ensures c.pack.ensures

@@ -1,0 +1,25 @@
+use Rattle.write_plain.proofs.Tries.{call-tried}
+use Rattle.write_plain.proofs.calls.call_row.Goals as goal
+
+pub type_of-class-requires : goal.type_of-class-requires
+type_of-class-requires c =
+    (c.requires.0.whole, c.variable_at-y.ensures.within)
+
+pub method_number-m-requires : goal.method_number-m-requires
+method_number-m-requires c =
+    (c.requires.0.whole, c.requires.0.fits)
+
+pub judge_call-v-requires : goal.judge_call-v-requires
+judge_call-v-requires c =
+    (c.requires.0, c.variable_at-x.ensures.within, c.variable_at-z.ensures.within)
+
+pub returns : goal.returns
+returns c =
+    call-tried c.args.text.now c.args.work.now c.args.c c.args.r c.args.line c.row_if.result
+    c.span_after-a.ensures
+    c.span_after-b.ensures
+    c.span_after-d.ensures
+    c.span_after-e.ensures c.variable_at-x.ensures
+    c.variable_at-y.ensures c.variable_at-z.ensures
+    c.type_of-class.ensures c.name_in.ensures
+    c.method_number-m.ensures.0 c.judge_call-v.ensures c.row.ensures c.row_if.ensures
