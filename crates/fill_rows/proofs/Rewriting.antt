@@ -24,7 +24,7 @@ use Rattle.fill_rows.specs.Rewrites.{Spared}
 -- the bytes that stay, and what holds of those that do not
 pub record Rewritten (w : List ℕ) (m n : ℕ) (w' : List ℕ) : Type 0 where
   pub size : length w' ≡ length w
-  pub row_count_lem : Kept 0 2 w w'
+  pub keeps_count : Kept 0 2 w w'
   pub rows : Kept 4 methods_at w w'
   pub others : (j : ℕ) → j < method_count w → (j ≡ m → ⊥) → Kept (method_place j) (method_place j + 8) w w'
   pub after : Kept (method_place m + 3) (method_place m + 8) w w'
@@ -56,7 +56,7 @@ with-one f g φ (suc m) i (suc k) l same one =
 module _ (w w' : List ℕ) (m n : ℕ) (S : Spared w m n) (R : Rewritten w m n w') where
   -- THE HEADER
   rows_same : row_count w' ≡ row_count w
-  rows_same = half-kept 0 2 w w' R.row_count_lem 0 (omega arith) (omega arith)
+  rows_same = half-kept 0 2 w w' R.keeps_count 0 (omega arith) (omega arith)
 
   classes-same : class_count w' ≡ class_count w
   classes-same = R.rows 4 (omega arith) (omega arith)

@@ -95,7 +95,7 @@ module _ (w : List ℕ) (m n : ℕ) (S : Spared w m n) (a x f : ℕ) (low : n �
   acc-rewrites =
       record {
         size = atom-length w a acc_atom _ _ S.tables.size (omega (arith, S.room)) ok;
-        row_count = K _ _ (inl (omega arith));
+        keeps_count = K _ _ (inl (omega arith));
         rows = K _ _ (inl (omega arith));
         others = λ j l d. K (method_place j) (method_place j + 8) (inl (omega (arith, S.tables.methods)));
         after = K _ _ (inl (omega (arith, S.method, S.tables.methods)));
@@ -167,7 +167,7 @@ module _ (w : List ℕ) (m n k : ℕ) (S : Spared w m n) (few : k ≤ most_fille
   set-rewrites =
       record {
         size = set-size;
-        row_count = both-kept _ _ (inl (omega arith)) (inl (omega arith));
+        keeps_count = both-kept _ _ (inl (omega arith)) (inl (omega arith));
         rows = both-kept _ _ (inr (omega arith)) (inl (omega arith));
         others = λ j l d. both-kept _ _ (inr (omega arith))
             (⊎_elim (λ e. absurd (d e)) (λ o. ⊎_elim (λ g. inl (omega arith)) (λ g. inr (omega arith)) o) (three_ways j m));

@@ -93,8 +93,8 @@ module _ (p : Places.Place) where
         let bs = p.branches in
         rw (kind-is (statement Return), kind-is (statement Else), kind-is (statement Join), kind-is (statement Again), kind-is (statement End), may-else bs, may-join bs, may-again bs, may-end bs)
 
-    pub in-place-is : in_place k (coded p) ≡ Places.is_in_place (kind_numbered k) p
-    unfolding in_place coded Places.is_in_place
+    pub in-place-is : in_place k (coded p) ≡ Places.in_place (kind_numbered k) p
+    unfolding in_place coded Places.in_place
     in-place-is = rw fits-is
 
     branches-is : branches_after k (branches_number p.branches) ≡ branches_number (Places.branches_after (kind_numbered k) p.branches)

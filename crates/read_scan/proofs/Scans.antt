@@ -37,7 +37,7 @@ pub place-line-is :
 unfolding place_line next_place check ◌>>◌ ◌>>=◌
 place-line-is s k h p e =
     rw (e, in-place-is p k h, place-after-is p k h, within-is)
-    (go (Places.is_in_place (kind_numbered k) p) (Places.within_limits (Places.place_after (kind_numbered k) p)) _)
+    (go (Places.in_place (kind_numbered k) p) (Places.within_limits (Places.place_after (kind_numbered k) p)) _)
   where
     go :
         (x y : Bool) (q : Places.Place) →
@@ -121,7 +121,7 @@ unfolding scan_line place_line
 line_taken p l x e =
     let (a, r, f) = bind_ok (read_line l) e in
     let (q, g, h) = bind_ok (place_line p a.kind) f in
-    let (i, m) = check-ok (Places.is_in_place a.kind p) malformed g in
+    let (i, m) = check-ok (Places.in_place a.kind p) malformed g in
     let (w, n) = check-ok (Places.within_limits (Places.place_after a.kind p)) limit_passed m in
     let o = read-line-of l a r in
     let j : record { line = a; next = q } ≡ x = ok-inj h in

@@ -1,14 +1,15 @@
 // The program of document 01: reads a script from standard input, checks it, tries it out for at most 1,000 steps, and prints the answers.
 #![tactic(auto)]
 
-ghost use Rattle.std.specs.Prelude.{◌≡◌, ◌≤◌, length};
+ghost use Rattle.std.specs.Prelude.{◌≡◌, ◌+◌, ◌≤◌, length, IfOk};
 ghost use Rattle.rules.specs.Printed.{printed};
 ghost use Rattle.printer.specs.Writes.{Prints};
 ghost use Rattle.printer.specs.Answers.{out_bytes};
 ghost use Rattle.script.specs.Inputs.{area_bytes, Within};
 
-use libc::{STDIN_FILENO, STDOUT_FILENO};
 use rules::Machine;
+use std::io;
+use std::io::{Input as Source, Print, Read};
 
 // What reading gave: so many bytes at the start of the area, or a read that failed.
 #[derive(Clone, Copy)]
@@ -27,23 +28,22 @@ fn text_area() -> [u8; AREA_BYTES]
 }
 
 // One read into the area from a place on.
-fn read_more(area: &mut [u8], from: usize) -> isize
+fn read_more<R: Read>(reader: &mut R, area: &mut [u8], from: usize) -> io::Result<usize>
     requires { from ≤ length area.old }
+    ensures { IfOk result (λ n. from + n ≤ length area.new) }
 {
-    libc::read(STDIN_FILENO, &mut area[from..])
+    reader.read(&mut area[from..])
 }
 
 // Reads until the area is full or the input ends.
-fn read_input(area: &mut [u8]) -> Input
+fn read_input<R: Read>(reader: &mut R, area: &mut [u8]) -> Input
     ensures { Within area.new result }
 {
     let mut done = 0;
     while done < area.len() {
-        let got = read_more(area, done);
-        if got < 0 {
+        let Ok(n) = read_more(reader, area, done) else {
             return Input::Failed;
-        }
-        let n = io::count(got, &area[done..]);
+        };
         if n == 0 {
             return Input::Bytes(done);
         }
@@ -57,25 +57,22 @@ fn answer(text: &[u8], out: &mut [u8]) -> usize
     requires { length out.old ≡ out_bytes }
     ensures { Prints (printed text.now) out.new result }
 {
-    let mut work = io::large_buffer();
+    let mut work = [0u8; Machine::WORK_BYTES];
     let mut results = [0u8; Machine::RESULTS_BYTES];
     printer::print(text, &mut work, &mut results, out)
 }
 
-fn print_answer(text: &[u8]) {
+fn print_answer<P: Print>(to: &P, text: &[u8]) -> io::Result<()> {
     let mut out = [0u8; printer::OUT_BYTES];
     let n = answer(text, &mut out);
-    let is_written = io::write_all(STDOUT_FILENO, &out[..n]);
-    if !is_written {
-        os::fail(b"write");
-    }
+    to.write_all(&out[..n])
 }
 
-fn main() {
+fn main(rt: HostRuntime) -> io::Result<()> {
     let mut area = text_area();
-    let input = read_input(&mut area);
+    let input = read_input(&mut rt.reader(), &mut area);
     match input {
-        Input::Bytes(n) => print_answer(&area[..n]),
-        Input::Failed => os::fail(b"read"),
+        Input::Bytes(n) => print_answer(&rt, &area[..n]),
+        Input::Failed => Err(io::Error::other("read")),
     }
 }

@@ -6,7 +6,9 @@ ghost use Rattle.printer.specs.Writes.{Writes, Prints};
 ghost use Rattle.small_list.specs.Small.{most_statements, statement, opening, body, text_of, accepted, line_of, printed};
 ghost use Rattle.small.specs.Listing.{most_line, most_body, text_bytes, out_bytes, IsPlace, places_in, Known, Adds, after, room, Lists};
 
-use libc::STDOUT_FILENO;
+use rules::Machine;
+use std::io;
+use std::io::Print;
 
 // A main has at most so many statements.
 const MOST_STATEMENTS: usize = 3;
@@ -136,7 +138,7 @@ fn is_accepted(m: Places) -> bool
     ensures { result ≡ accepted (places_in m) }
 {
     let mut text = [0u8; TEXT_BYTES];
-    let mut work = io::large_buffer();
+    let mut work = [0u8; Machine::WORK_BYTES];
     let end = put_text(&mut text, m);
     let checked = station::check(&text[..end], &mut work);
     checked == 0
@@ -185,11 +187,8 @@ fn put_small(out: &mut [u8]) -> usize
     e
 }
 
-fn main() {
+fn main(rt: HostRuntime) -> io::Result<()> {
     let mut out = [0u8; OUT_BYTES];
     let n = put_small(&mut out);
-    let is_written = io::write_all(STDOUT_FILENO, &out[..n]);
-    if !is_written {
-        os::fail(b"write");
-    }
+    rt.write_all(&out[..n])
 }

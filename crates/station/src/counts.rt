@@ -51,8 +51,7 @@ fn count_part(j: Joint, i: usize, share: u32, text: &[u8], work: &mut [u8], resu
 
 // Up to four scripts over one heap, each in its share, one step a round: 0, or number 19; for each script what run returns, then its results,
 // in `results`.
-#[unsafe(no_mangle)]
-pub extern "C" fn count(
+pub fn count(
     scripts: u32,
     rounds: u32,
     text1: &[u8],

@@ -1,4 +1,4 @@
-// The calls that a host links, `check`, `run`, `trial`, `lean`, `bound` and `fill`, and what the program prints. Each reads the text, does its work, and
+// The calls of a host, `check`, `run`, `trial`, `lean`, `bound` and `fill`, and what the program prints. Each reads the text, does its work, and
 // clears the work area. The module `counts` has `count`.
 #![tactic(auto)]
 
@@ -22,6 +22,8 @@ ghost use Rattle.reader.specs.Readings.{framed_verdict};
 ghost use Rattle.checker.specs.Checked as Checker;
 ghost use Rattle.machine.specs.Runs.{main_values};
 ghost use Rattle.station.specs.Station.{numbers_in, Found, RunAs, unless_refused, share_run, CheckLeaves, RunLeaves, BoundLeaves, FillLeaves};
+
+pub use counts::count;
 
 use bounds::bound_found;
 use check_entailment::Answer;
@@ -140,8 +142,7 @@ fn check_text(text: &[u8], work: &mut [u8]) -> Reply
 }
 
 // Is the text a script that keeps to its permissions? The number and line of document 01's table, as number × 65,536 + line.
-#[unsafe(no_mangle)]
-pub extern "C" fn check(text: &[u8], work: &mut [u8]) -> u32
+pub fn check(text: &[u8], work: &mut [u8]) -> u32
     ensures { CheckLeaves (check_call text.now work.old) result work.new }
 {
     if work.len() != Machine::WORK_BYTES {
@@ -181,8 +182,7 @@ fn run_found(found: Reply, work: &mut [u8], steps: u32, share: u32, results: &mu
 
 // Runs main for at most so many steps, if check accepts the text: the number and line as for check; the steps taken and main's values in
 // `results`.
-#[unsafe(no_mangle)]
-pub extern "C" fn run(text: &[u8], work: &mut [u8], steps: u32, results: &mut [u8]) -> u32
+pub fn run(text: &[u8], work: &mut [u8], steps: u32, results: &mut [u8]) -> u32
     ensures { RunLeaves (run_call text.now work.old steps results.old) result work.new results.new }
 {
     if !areas::fit(work, results, Machine::RESULTS_BYTES) {
@@ -210,8 +210,7 @@ fn read_text(text: &[u8], work: &mut [u8]) -> Reply
 }
 
 // Runs main as `run` does, of each text that the reader takes, accepted or not.
-#[unsafe(no_mangle)]
-pub extern "C" fn trial(text: &[u8], work: &mut [u8], steps: u32, results: &mut [u8]) -> u32
+pub fn trial(text: &[u8], work: &mut [u8], steps: u32, results: &mut [u8]) -> u32
     ensures { RunLeaves (trial_call text.now work.old steps results.old) result work.new results.new }
 {
     if !areas::fit(work, results, Machine::RESULTS_BYTES) {
@@ -227,8 +226,7 @@ pub extern "C" fn trial(text: &[u8], work: &mut [u8], steps: u32, results: &mut 
 
 // Runs main as `run` does, with the same answer and the same bytes, by the machine that tests no permission: of an accepted text none can
 // be missing.
-#[unsafe(no_mangle)]
-pub extern "C" fn lean(text: &[u8], work: &mut [u8], steps: u32, results: &mut [u8]) -> u32
+pub fn lean(text: &[u8], work: &mut [u8], steps: u32, results: &mut [u8]) -> u32
     ensures { RunLeaves (lean_call text.now work.old steps results.old) result work.new results.new }
 {
     if !areas::fit(work, results, Machine::RESULTS_BYTES) {
@@ -244,8 +242,7 @@ pub extern "C" fn lean(text: &[u8], work: &mut [u8], steps: u32, results: &mut [
 
 // How many steps can an accepted script take, and how many frames? The number and line as for check; main's bound and the most frames on a
 // route of calls in `bounds`.
-#[unsafe(no_mangle)]
-pub extern "C" fn bound(text: &[u8], work: &mut [u8], bounds: &mut [u8]) -> u32
+pub fn bound(text: &[u8], work: &mut [u8], bounds: &mut [u8]) -> u32
     ensures { BoundLeaves (bound_call text.now work.old bounds.old) result work.new bounds.new }
 {
     if !areas::fit(work, bounds, Machine::BOUNDS_BYTES) {
@@ -261,8 +258,7 @@ pub extern "C" fn bound(text: &[u8], work: &mut [u8], bounds: &mut [u8]) -> u32
 
 // Which permissions does the one line `requires *` need? The number and line as for check, or 17 or 18; the places of the first set with which the
 // text is accepted in `places`.
-#[unsafe(no_mangle)]
-pub extern "C" fn fill(text: &[u8], work: &mut [u8], places: &mut [u8]) -> u32
+pub fn fill(text: &[u8], work: &mut [u8], places: &mut [u8]) -> u32
     ensures { FillLeaves (fill_call text.now work.old places.old) result work.new places.new }
 {
     if !areas::fit(work, places, Machine::PLACES_BYTES) {

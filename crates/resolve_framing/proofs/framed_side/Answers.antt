@@ -1,3 +1,6 @@
+use Rattle.std.proofs.lemmas.Grind.{common_steps}
+use Rattle.std.proofs.Common.{arith}
+use Rattle.std.proofs.Common.{rules}
 use denote.Enum.Declared.{tag_of}
 use mathlib.Core.Bool.{true}
 use mathlib.Core.List.{List, [], ◌∷◌}
@@ -25,7 +28,7 @@ unfolding meaning
 of-path e x f k before = rw k
 
 pub returns-in_default : goal.returns-in_default
-returns-in_default c = rest _ c.in_default.in_default-own.keys2 _
+returns-in_default c = search rules
 
 pub returns : goal.returns
 returns c = c.has_access.ensures ∙ of-path _ _ _ c.in-Path.is _
