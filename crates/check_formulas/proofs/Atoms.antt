@@ -73,9 +73,9 @@ module _ (w : List ℕ) (y z x : ℕ) where
 
 -- ANSWERS
 pub not_done :
-    {A B : Type 0} (k : Answer) → OneOf (1 ∷ 2 ∷ 3 ∷ 4 ∷ 5 ∷ []) (tag_of the_type k) → (a : A) (f : A → Try Refusal B) (b : B) → (answered k a >>= f) ≡ answered k b
+    {A B : Type 0} (k : Answer) → (k ≡ Answer.Done → ⊥) → (a : A) (f : A → Try Refusal B) (b : B) → (answered k a >>= f) ≡ answered k b
 unfolding answered ◌>>=◌
-not_done Answer.Done o a f b = absurd (miss (1 ∷ 2 ∷ 3 ∷ 4 ∷ 5 ∷ []) 0 tt o)
+not_done Answer.Done o a f b = absurd (o refl)
 not_done Answer.Unresolved o a f b = refl
 not_done Answer.NoPermission o a f b = refl
 not_done Answer.NotShown o a f b = refl
@@ -146,7 +146,7 @@ module _ (key b : List ℕ) (φ rest : Formula ℕ) (left : List ℕ) (S : Showi
     pub show-more : k ≡ Answer.Done → Showing key b φ more left'
     show-more d = sym (is_done k d _ _) ∙ on
 
-    pub show-refused : OneOf (1 ∷ 2 ∷ 3 ∷ 4 ∷ 5 ∷ []) (tag_of the_type k) → Shows key b φ k left'
+    pub show-refused : (k ≡ Answer.Done → ⊥) → Shows key b φ k left'
     show-refused o = sym (not_done k o _ _ (left_of b left')) ∙ on
 
   pub show-end : rest ≡ [] → Shows key b φ Answer.Done left
@@ -158,7 +158,7 @@ module _ (key b : List ℕ) (a : Atom ℕ) (k : Answer) (key' b' : List ℕ) (A 
   pub add-more : k ≡ Answer.Done → Rules.add rest (state_of key b) ≡ Rules.add more (state_of key' b')
   add-more d = rw e (add-on a more (state_of key b) ∙ rw (← A.same) (is_done k d _ _))
 
-  pub add-refused : OneOf (1 ∷ 2 ∷ 3 ∷ 4 ∷ 5 ∷ []) (tag_of the_type k) → Adds (Rules.add rest (state_of key b)) k key' b'
+  pub add-refused : (k ≡ Answer.Done → ⊥) → Adds (Rules.add rest (state_of key b)) k key' b'
   add-refused o = record { wf = A.wf; same = sym (rw e (add-on a more (state_of key b) ∙ rw (← A.same) (not_done k o _ _ (state_of key' b')))) }
 
 pub add-end : (key b : List ℕ) (rest : Formula ℕ) → Wf key b → rest ≡ [] → Adds (Rules.add rest (state_of key b)) Answer.Done key b

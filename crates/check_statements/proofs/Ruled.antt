@@ -39,7 +39,7 @@ use Rattle.check_formulas.proofs.Atoms.{not_done, is_done, start_fits, start_lef
 use Rattle.check_statements.specs.Statements.{assign_term, call_shown, initial_of, Says, Asserts, end_of, release_rule}
 
 abbrev pub Refused : Answer → Type 0
-Refused k = OneOf (1 ∷ 2 ∷ 3 ∷ 4 ∷ 5 ∷ []) (tag_of the_type k)
+Refused k = k ≡ Answer.Done → ⊥
 
 -- ONE AFTER THE OTHER
 pub adds_same : (t u : Try Refusal Rules.State) (k : Answer) (key b : List ℕ) → t ≡ u → Adds t k key b → Adds u k key b

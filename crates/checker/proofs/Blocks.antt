@@ -45,7 +45,7 @@ done-outcome k e l v = rw e
 
 pub refused-outcome : (k : Answer) → Refused k → (l : ℕ) (v u : Result) → outcome k l v ≡ outcome k l u
 unfolding outcome
-refused-outcome Answer.Done o l v u = absurd (miss (1 ∷ 2 ∷ 3 ∷ 4 ∷ 5 ∷ []) 0 tt o)
+refused-outcome Answer.Done o l v u = absurd (o refl)
 refused-outcome Answer.Unresolved o l v u = refl
 refused-outcome Answer.NoPermission o l v u = refl
 refused-outcome Answer.NotShown o l v u = refl
@@ -54,7 +54,7 @@ refused-outcome Answer.Malformed o l v u = refl
 
 pub refused-verdict : (k : Answer) → Refused k → (l : ℕ) (v : Result) → verdict_of (Verdict.Refused k l) ≡ outcome k l v
 unfolding outcome verdict_of refusal_of
-refused-verdict Answer.Done o l v = absurd (miss (1 ∷ 2 ∷ 3 ∷ 4 ∷ 5 ∷ []) 0 tt o)
+refused-verdict Answer.Done o l v = absurd (o refl)
 refused-verdict Answer.Unresolved o l v = refl
 refused-verdict Answer.NoPermission o l v = refl
 refused-verdict Answer.NotShown o l v = refl
@@ -70,7 +70,7 @@ unfolding verdict_of refusal_of
 malformed-verdict l = refl
 
 never : {A : Type 0} {k : Answer} → Refused k → k ≡ Answer.Done → A
-never {k = k} o e = absurd (miss (1 ∷ 2 ∷ 3 ∷ 4 ∷ 5 ∷ []) 0 tt (subst Refused e o))
+never o e = absurd (o e)
 
 wrong : {A : Type 0} → Answer.Malformed ≡ Answer.Done → A
 wrong e = absurd (let z : ◌≡◌ {A = ℕ} 0 1 = cc in omega arith)
@@ -574,9 +574,9 @@ module _ (w : List ℕ) (m a n c o f : ℕ) (ea : a ≡ half_at w (method_place 
   method-done e ec eo ef = rw (ec, eo, ef) (sym (method-verdict ∙ done-outcome k e _ _))
 
 -- THE PROGRAM
-refusal-stays : (v : Verdict) → OneOf (1 ∷ []) (tag_of verdict-type v) → (f : Unit {0} → Result) → then (verdict_of v) f ≡ verdict_of v
+refusal-stays : (v : Verdict) → (v ≡ Verdict.Accepted → ⊥) → (f : Unit {0} → Result) → then (verdict_of v) f ≡ verdict_of v
 unfolding verdict_of then
-refusal-stays Verdict.Accepted o f = absurd (miss (1 ∷ []) 0 tt o)
+refusal-stays Verdict.Accepted o f = absurd (o refl)
 refusal-stays (Verdict.Refused k l) o f = refl
 
 module _ (w : List ℕ) where
@@ -599,10 +599,10 @@ module _ (w : List ℕ) where
   unfolding verdict_of then
   method-accepted n m h v e d = blocks_more n m h v e ∙ ap (λ (u : Verdict). then (verdict_of u) (λ x. check_blocks (program_in w) (methods_from w (m + 1) (n - (m + 1))))) d
 
-  pub method-stops : (n m : ℕ) → m < n → (v : Verdict) → verdict_of v ≡ check_method (program_in w) (method_at w m) → OneOf (1 ∷ []) (tag_of verdict-type v) → verdict_of v ≡ check_blocks (program_in w) (methods_from w m (n - m))
+  pub method-stops : (n m : ℕ) → m < n → (v : Verdict) → verdict_of v ≡ check_method (program_in w) (method_at w m) → (v ≡ Verdict.Accepted → ⊥) → verdict_of v ≡ check_blocks (program_in w) (methods_from w m (n - m))
   method-stops n m h v e o = sym (blocks_more n m h v e ∙ stays v o)
     where
-      stays : (v : Verdict) → OneOf (1 ∷ []) (tag_of verdict-type v) → then (verdict_of v) (λ u. check_blocks (program_in w) (methods_from w (m + 1) (n - (m + 1)))) ≡ verdict_of v
+      stays : (v : Verdict) → (v ≡ Verdict.Accepted → ⊥) → then (verdict_of v) (λ u. check_blocks (program_in w) (methods_from w (m + 1) (n - (m + 1)))) ≡ verdict_of v
       stays v o = refusal-stays v o (λ u. check_blocks (program_in w) (methods_from w (m + 1) (n - (m + 1))))
 
   pub main-alone : (f : ℕ) → f ≡ main_first w → (t : Rules.State) → t ≡ Rules.empty → verdict_from w f (some t) (atoms_from w 0 0) [] ≡ check_blocks (program_in w) []

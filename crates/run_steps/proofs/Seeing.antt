@@ -457,6 +457,8 @@ module _ {w : List ℕ} {v : View} {h : Heap} {F : Frame} (S : Sees w v h F) whe
             take_walk h F f o A ≡ no s
         go (ok B) (ok os) q (both k) e = no_ok (sym e)
         go (no r) (no t) q neither e = rw q (cc)
+        go (ok B) (no t) q x6 e = elim x6 [ ]
+        go (no r) (ok os) q x5 e = elim x5 [ ]
 
     -- its locations, both halves of each
     pub walk-ok :
@@ -482,6 +484,8 @@ module _ {w : List ℕ} {v : View} {h : Heap} {F : Frame} (S : Sees w v h F) whe
                 ap (λ (l : List ℕ). halves (places f l) p) (ok-inj e),
               ),
         )
+        go (ok C) (no t) q x6 e = elim x6 [ ]
+        go (no r) (ok us) q x5 e = elim x5 [ ]
         go (no r) (no t) q neither e = no_ok e
 
     -- the chain is one more of the shares
@@ -608,6 +612,8 @@ module _ {w : List ℕ} {v : View} {h : Heap} {F : Frame} (S : Sees w v h F) whe
       go : (b : Bool) → Agree Taken (check b formula_false >> g) (check b formula_false >> j)
       go true = rest
       go false = stops_so
+      go (ok A) (no q) x4 e = elim x4 [ ]
+      go (no r) (ok ss) x4 e = elim x4 [ ]
   cmp_step n (ok l) (no s) g j rest = stops_so
   cmp_step n (no s) b g j rest = stops_so
 
@@ -633,6 +639,10 @@ module _ {w : List ℕ} {v : View} {h : Heap} {F : Frame} (S : Sees w v h F) whe
       go : (a : Try Stop (List Location)) (b : Try Stop (List ℕ)) → Agree Taken a b → b ≡ no s → a ≡ no s
       go (ok A) (ok ss) (took-so M) e = absurd (let z : ◌≡◌ {A = ℕ} 0 1 = cc in omega arith)
       go (no r) (no q) stops_so e = cc
+      go (ok A) (no s) q x6 e = elim x6 [ ]
+      go (no r) (ok rs) q x5 e = elim x5 [ ]
+      go (ok A) (no q) x4 e = elim x4 [ ]
+      go (no r) (ok ss) x4 e = elim x4 [ ]
 
   pub ok-footprint :
       (φ : Formula ℕ) (ss : List ℕ) → FormulaOk φ → take_in w v φ [] ≡ ok ss →
@@ -644,6 +654,8 @@ module _ {w : List ℕ} {v : View} {h : Heap} {F : Frame} (S : Sees w v h F) whe
           (A : List Location) × (footprint h F φ ≡ ok A) × Matches w v.objects A (spread w v.objects ss)
       go (ok A) (ok rs) q (took-so M) e = (A, q, subst (λ (i : List ℕ). Matches w v.objects A (spread w v.objects i)) (ok-inj e) M.matches)
       go (no r) (no s) q stops_so e = absurd (let z : ◌≡◌ {A = ℕ} 0 1 = cc in omega arith)
+      go (ok A) (no s) q x6 e = elim x6 [ ]
+      go (no r) (ok rs) q x5 e = elim x5 [ ]
 
 -- THE ATOMS OF THE TABLES
 atom-ok : (w : List ℕ) (a : ℕ) → AtomFitsAt w a → AtomOk (atom_at w a)

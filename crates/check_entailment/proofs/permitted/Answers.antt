@@ -5,8 +5,8 @@ use Rattle.check_entailment.proofs.permitted.Goals as goal
 
 pub returns-then-shown : goal.returns-then-shown
 unfolding answered shown_by check ◌>>◌
-returns-then-shown c = rw c.if-shown.true
+returns-then-shown c kept = rw c.if-shown.true
 
 pub returns-else-shown : goal.returns-else-shown
 unfolding answered shown_by check ◌>>◌
-returns-else-shown c = rw c.if-shown.false
+returns-else-shown c kept = rw c.if-shown.false

@@ -1,3 +1,6 @@
+use Rattle.std.proofs.lemmas.Grind.{common_steps}
+use Rattle.std.proofs.Common.{arith}
+use Rattle.std.proofs.Common.{rules}
 use Rattle.check_entailment.proofs.Showing.{access-shown}
 use Rattle.check_entailment.proofs.show_access.Goals as goal
 
@@ -9,4 +12,4 @@ take-requires c = c.requires
 
 pub returns : goal.returns
 returns c =
-    (c.take.ensures.0, access-shown c.args.key.now c.args.b.now c.args.left.now c.args.want _ c.args.y c.args.f _ c.take.new.1.1.0 c.variable_key.ensures.0 c.take.ensures.1)
+    (c.take.ensures.0, access-shown c.args.key.now c.args.b.now c.args.left.now c.args.want _ c.args.y c.args.f _ c.take.new.left c.variable_key.ensures.0 c.take.ensures.1)

@@ -23,8 +23,8 @@ add_at-k-requires c = (c.requires.0, omega (arith, c.requires.1), c.loop-i.invar
 
 pub returns-in_default : goal.returns-in_default
 returns-in_default c =
-    subst (λ (q : Try Refusal Rules.State). Adds q c.add_at-k.result c.add_at-k.new.1.1.1.1.1.0 c.add_at-k.new.1.1.1.1.1.1.0)
-    (sym c.loop-i.invariant.2) (add-refused c.loop-i.key c.loop-i.b _ _ _ _ c.add_at-k.ensures _ _ (formula-more _ _ _ _ _ _ _ c.loop-i-test.true) c.in_default.in_default-own.keys2)
+    subst (λ (q : Try Refusal Rules.State). Adds q c.add_at-k.result c.add_at-k.new.key c.add_at-k.new.b)
+    (sym c.loop-i.invariant.2) (add-refused c.loop-i.key c.loop-i.b _ _ _ _ c.add_at-k.ensures _ _ (formula-more _ _ _ _ _ _ _ c.loop-i-test.true) c.in_default.not-Done)
 
 pub overflow_add-i : goal.overflow_add-i
 overflow_add-i c = omega arith

@@ -13,7 +13,7 @@ add_own-requires c = (c.requires.2, c.kind_of.ensures.0)
 
 pub returns-then-k-lt-EQ : goal.returns-then-k-lt-EQ
 returns-then-k-lt-EQ c =
-    subst (λ (t : Atom ℕ). AddsAtom c.args.key.now c.args.b.now t c.add_own.result c.args.key.now c.add_own.new.1.0)
+    subst (λ (t : Atom ℕ). AddsAtom c.args.key.now c.args.b.now t c.add_own.result c.args.key.now c.add_own.new.b)
     (atom-own c.args.w.now c.args.y c.args.z c.args.x c.args.a _ _ _ _ c.atom_kind-k.ensures.0 c.if-k-lt-EQ.true c.kind_of.ensures.1 c.variable-v.ensures c.field.ensures) c.add_own.ensures
 
 pub add_relation-requires : goal.add_relation-requires
@@ -21,5 +21,5 @@ add_relation-requires c = c.requires.2
 
 pub returns : goal.returns
 returns c =
-    subst (λ (t : Atom ℕ). AddsAtom c.args.key.now c.args.b.now t c.add_relation.result c.add_relation.new.0 c.add_relation.new.1.0)
+    subst (λ (t : Atom ℕ). AddsAtom c.args.key.now c.args.b.now t c.add_relation.result c.add_relation.new.key c.add_relation.new.b)
     (atom-relation c.args.w.now c.args.y c.args.z c.args.x c.args.a _ _ _ _ c.atom_kind-k.ensures.0 c.if-k-lt-EQ.false refl c.left-l.ensures c.right.ensures) c.add_relation.ensures

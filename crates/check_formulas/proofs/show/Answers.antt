@@ -16,7 +16,7 @@ show_at-k-requires c = (c.requires.0, omega (arith, c.requires.1), c.requires.2,
 
 pub returns-in_default : goal.returns-in_default
 returns-in_default c =
-    (c.show_at-k.ensures.0, show-refused c.args.key.now c.args.b.now _ _ c.loop-i.left c.loop-i.invariant.2 _ _ (formula-more _ _ _ _ _ _ _ c.loop-i-test.true) _ c.show_at-k.new.1.1.1.1.1.1.1.0 c.show_at-k.ensures.1 c.in_default.in_default-own.keys2)
+    (c.show_at-k.ensures.0, show-refused c.args.key.now c.args.b.now _ _ c.loop-i.left c.loop-i.invariant.2 _ _ (formula-more _ _ _ _ _ _ _ c.loop-i-test.true) _ c.show_at-k.new.left c.show_at-k.ensures.1 c.in_default.not-Done)
 
 pub overflow_add-i : goal.overflow_add-i
 overflow_add-i c = omega arith
@@ -26,7 +26,7 @@ loop-i-smaller c = omega arith
 
 pub loop-i-preserved : goal.loop-i-preserved
 loop-i-preserved c =
-    (omega arith, c.show_at-k.ensures.0, show-more c.args.key.now c.args.b.now _ _ c.loop-i.left c.loop-i.invariant.2 _ _ (formula-more _ _ _ _ _ _ _ c.loop-i-test.true) _ c.show_at-k.new.1.1.1.1.1.1.1.0 c.show_at-k.ensures.1 c.in-Done.is)
+    (omega arith, c.show_at-k.ensures.0, show-more c.args.key.now c.args.b.now _ _ c.loop-i.left c.loop-i.invariant.2 _ _ (formula-more _ _ _ _ _ _ _ c.loop-i-test.true) _ c.show_at-k.new.left c.show_at-k.ensures.1 c.in-Done.is)
 
 pub returns : goal.returns
 returns c =

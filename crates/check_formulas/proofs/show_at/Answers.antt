@@ -15,7 +15,7 @@ pub returns-then-k-lt-EQ : goal.returns-then-k-lt-EQ
 returns-then-k-lt-EQ c =
     (
       c.show_access.ensures.0,
-      subst (λ (t : Atom ℕ). ShowsAtom c.args.key.now c.args.b.now c.args.left.now t c.show_access.result c.show_access.new.1.1.0)
+      subst (λ (t : Atom ℕ). ShowsAtom c.args.key.now c.args.b.now c.args.left.now t c.show_access.result c.show_access.new.left)
           (atom-own c.args.w.now c.args.y c.args.z c.args.x c.args.a _ _ _ _ c.atom_kind-k.ensures.0 c.if-k-lt-EQ.true c.kind_of.ensures.1 c.variable-v.ensures c.field.ensures) c.show_access.ensures.1,
     )
 

@@ -8,6 +8,7 @@ use mathlib.Core.Logic.{⊎_elim}
 use mathlib.Core.Path.{◌≡◌, refl, sym, ◌∙◌}
 use native.Mathlib.Omega.{arith}
 use Rattle.check_inequality.proofs.two_entries.Goals as goal
+use Rattle.check_inequality.proofs.two_entries.Goals.{then-p-q+else-loop-j-test, else-p-q}
 
 pub first_named-s-requires : goal.first_named-s-requires
 first_named-s-requires c = (c.requires.0, c.requires.1, c.requires.3)
@@ -81,13 +82,22 @@ pub entries-smaller : goal.entries-smaller
 entries-smaller c = omega arith
 
 pub entries-preserved : goal.entries-preserved
-entries-preserved c =
-    (
-      omega arith,
-      ⊎_elim (λ w. w.3 ∙ w.1.inv.1) (λ w. w.1 ∙ c.entries.invariant.1) c.if-p-q.branch,
-      λ fs D. two_past _ _ _ (permission_at c.args.b.now) _ (c.entries.invariant.2 fs D) (⊎_elim (λ w. let e : w.1.j ≡ c.entries.i = omega (arith, w.2.left, w.1.inv.0) in rw e at (w.1.inv.2 fs D)) (λ w. two-neither _ _ _ _ _ (sym (c.variable_is-p.ensures fs D) ∙ or-none-left c.variable_is-p.result c.variable_is-q.result w.0.left) (sym (c.variable_is-q.ensures fs D) ∙ or-none-right c.variable_is-p.result c.variable_is-q.result w.0.left)) c.if-p-q.branch),
-      omega (arith, c.entries.invariant.3),
-    )
+entries-preserved c = (
+  omega arith,
+  elim c.if-p-q.branch [
+      then-p-q+else-loop-j-test w ↦ w.found-is ∙ w.loop-j.invariant.1
+    | else-p-q w ↦ w.found-is ∙ c.entries.invariant.1
+    ],
+  λ fs D. two_past _ _ _ (permission_at c.args.b.now) _ (c.entries.invariant.2 fs D) (elim c.if-p-q.branch [
+        then-p-q+else-loop-j-test w ↦
+          let e : w.loop-j.j ≡ c.entries.i = omega (arith, w.loop-j-test.false, w.loop-j.invariant.0) in
+          rw e at (w.loop-j.invariant.2 fs D)
+      | else-p-q w ↦
+          two-neither _ _ _ _ _ (sym (c.variable_is-p.ensures fs D) ∙ or-none-left c.variable_is-p.result c.variable_is-q.result w.if-p-q.false)
+          (sym (c.variable_is-q.ensures fs D) ∙ or-none-right c.variable_is-p.result c.variable_is-q.result w.if-p-q.false)
+      ]),
+  omega (arith, c.entries.invariant.3),
+)
 
 pub returns-after-entries : goal.returns-after-entries
 returns-after-entries c =

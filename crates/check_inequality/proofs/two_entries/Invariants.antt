@@ -11,7 +11,7 @@ use Rattle.check_inequality.proofs.two_entries.Given as goal
 
 abbrev pub invariant-loop-j : goal.invariant-loop-j
 invariant-loop-j l =
-    (l.j ≤ l.i) × (l.found ≡ false) × Told l.key l.b l.m (λ same. any (λ l.p. differ same l.p (permission_at l.b l.i) (term_of l.t) (term_of l.u)) (permissions_in l.b l.j) ≡ false)
+    (l.j ≤ l.i) × (l.found ≡ false) × Told l.key l.b l.m (λ same. any (λ p. differ same p (permission_at l.b l.i) (term_of l.t) (term_of l.u)) (permissions_in l.b l.j) ≡ false)
 
 abbrev pub decreases-loop-j : goal.decreases-loop-j
 decreases-loop-j l = l.i - l.j

@@ -24,4 +24,4 @@ relabel-requires c =
 
 pub returns : goal.returns
 returns c =
-    relabelled-first c.args.b.now c.args.x c.requires.0 c.requires.3.size c.args.m 0 _ c.requires.1 (subst (λ (l : List ℕ). Relabelled l c.args.m c.args.x c.relabel.new.0) c.set_label.ensures c.relabel.ensures)
+    relabelled-first c.args.b.now c.args.x c.requires.0 c.requires.3.size c.args.m 0 _ c.requires.1 (subst (λ (l : List ℕ). Relabelled l c.args.m c.args.x c.relabel.new.b) c.set_label.ensures c.relabel.ensures)

@@ -30,7 +30,7 @@ loop-i-preserved c =
     (
       omega arith,
       naming-more c.args.b.now _ c.loop-i.i _ _ c.loop-i.invariant.1 (omega (arith, c.requires.1)) c.requires.2.size (λ j h. c.requires.2.low j (omega arith)) _ _
-          (subst (λ (a : ℕ). Named c.loop-i.i a c.args.x c.loop-i.name c.new_label.new.0 c.new_label.result) (c.loop-i.invariant.1.rest c.loop-i.i (omega arith)) c.new_label.ensures),
+          (subst (λ (a : ℕ). Named c.loop-i.i a c.args.x c.loop-i.name c.new_label.new.name c.new_label.result) (c.loop-i.invariant.1.rest c.loop-i.i (omega arith)) c.new_label.ensures),
     )
 
 pub returns : goal.returns

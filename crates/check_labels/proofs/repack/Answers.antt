@@ -97,4 +97,4 @@ keep_labels-requires c =
 pub returns : goal.returns
 returns c =
     repacked c.args.key.now c.args.b.now c.args.gone.now c.args.x c.loop-i.i c.loop-i.n c.loop-i.key c.loop-i.b c.requires.0 (omega arith) c.loop-i.invariant.2 _
-    (subst (λ (y : ℕ). Relabelled (set c.loop-i.b fact_count c.loop-i.n) (left_sides + 2 * c.loop-i.n) y c.keep_labels.new.0) c.lone.ensures c.keep_labels.ensures)
+    (subst (λ (y : ℕ). Relabelled (set c.loop-i.b fact_count c.loop-i.n) (left_sides + 2 * c.loop-i.n) y c.keep_labels.new.b) c.lone.ensures c.keep_labels.ensures)

@@ -40,4 +40,4 @@ call_rule-requires c =
 pub returns : goal.returns
 unfolding statement_number
 returns c =
-    subst (λ (t : Try Refusal Rules.State). Adds t c.call_rule.result c.call_rule.new.1.0 c.call_rule.new.1.1.0) (call_at _ _ _ _ _ _ _ _ _ _ c.x_at-x.ensures.0 c.y_at-y.ensures.0 c.member_at.ensures.0 c.z_at-z.ensures.0 ((c.requires.0.row_fits c.args.i c.requires.1).operands.method c.requires.2)) c.call_rule.ensures
+    subst (λ (t : Try Refusal Rules.State). Adds t c.call_rule.result c.call_rule.new.key c.call_rule.new.b) (call_at _ _ _ _ _ _ _ _ _ _ c.x_at-x.ensures.0 c.y_at-y.ensures.0 c.member_at.ensures.0 c.z_at-z.ensures.0 ((c.requires.0.row_fits c.args.i c.requires.1).operands.method c.requires.2)) c.call_rule.ensures

@@ -19,4 +19,4 @@ join_rule-requires c =
 
 pub returns : goal.returns
 returns c =
-    subst (λ (t : Try Refusal Rules.State). Adds t c.join_rule.result c.join_rule.new.1.1.1.1.0 c.join_rule.new.1.1.1.1.1.0) (rw (c.first_atom_at-a.ensures.0, c.atom_count_at.ensures.0)) c.join_rule.ensures
+    subst (λ (t : Try Refusal Rules.State). Adds t c.join_rule.result c.join_rule.new.key c.join_rule.new.b) (rw (c.first_atom_at-a.ensures.0, c.atom_count_at.ensures.0)) c.join_rule.ensures

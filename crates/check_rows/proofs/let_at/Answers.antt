@@ -31,4 +31,4 @@ assign_rule-requires c = c.requires.3
 pub returns : goal.returns
 unfolding rule
 returns c =
-    subst (λ (t : Try Refusal Rules.State). Adds t c.assign_rule.result c.assign_rule.new.0 c.assign_rule.new.1.0) (rw (c.x_at-x.ensures.0, c.right.ensures, plain-term, c.first_atom_at-a.ensures.0)) c.assign_rule.ensures
+    subst (λ (t : Try Refusal Rules.State). Adds t c.assign_rule.result c.assign_rule.new.key c.assign_rule.new.b) (rw (c.x_at-x.ensures.0, c.right.ensures, plain-term, c.first_atom_at-a.ensures.0)) c.assign_rule.ensures

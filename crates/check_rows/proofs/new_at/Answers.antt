@@ -26,4 +26,4 @@ new_rule-requires c =
 pub returns : goal.returns
 unfolding statement_number
 returns c =
-    subst (λ (t : Try Refusal Rules.State). Adds t c.new_rule.result c.new_rule.new.1.0 c.new_rule.new.1.1.0) (new-at _ _ _ _ _ _ c.x_at-x.ensures.0 c.member_at.ensures.0 ((c.requires.0.row_fits c.args.i c.requires.1).operands.class c.requires.2)) c.new_rule.ensures
+    subst (λ (t : Try Refusal Rules.State). Adds t c.new_rule.result c.new_rule.new.key c.new_rule.new.b) (new-at _ _ _ _ _ _ c.x_at-x.ensures.0 c.member_at.ensures.0 ((c.requires.0.row_fits c.args.i c.requires.1).operands.class c.requires.2)) c.new_rule.ensures

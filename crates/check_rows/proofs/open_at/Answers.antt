@@ -28,5 +28,5 @@ overflow_cast-f c = record { fits = c.member_at-f.ensures.1 }
 pub returns : goal.returns
 unfolding rule
 returns c =
-    subst (λ (t : Try Refusal Rules.State). Adds t c.open_rule.result c.open_rule.new.0 c.open_rule.new.1.0)
+    subst (λ (t : Try Refusal Rules.State). Adds t c.open_rule.result c.open_rule.new.key c.open_rule.new.b)
     (rw (c.x_at-y.ensures.0, c.y_at-x.ensures.0, c.member_at-f.ensures.0)) c.open_rule.ensures

@@ -30,4 +30,4 @@ overflow_cast-y c = record { fits = c.y_at-y.ensures.1 }
 pub returns : goal.returns
 unfolding rule
 returns c =
-    subst (λ (t : Try Refusal Rules.State). Adds t c.set_rule.result c.set_rule.new.0 c.set_rule.new.1.0) (rw (c.x_at-x.ensures.0, c.member_at-f.ensures.0, c.y_at-y.ensures.0)) c.set_rule.ensures
+    subst (λ (t : Try Refusal Rules.State). Adds t c.set_rule.result c.set_rule.new.key c.set_rule.new.b) (rw (c.x_at-x.ensures.0, c.member_at-f.ensures.0, c.y_at-y.ensures.0)) c.set_rule.ensures

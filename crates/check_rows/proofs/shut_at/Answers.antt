@@ -22,5 +22,5 @@ overflow_cast-f c = record { fits = c.member_at-f.ensures.1 }
 pub returns : goal.returns
 unfolding rule
 returns c =
-    subst (λ (t : Try Refusal Rules.State). Adds t c.shut_rule.result c.shut_rule.new.0 c.shut_rule.new.1.0)
+    subst (λ (t : Try Refusal Rules.State). Adds t c.shut_rule.result c.shut_rule.new.key c.shut_rule.new.b)
     (rw (c.x_at-x.ensures.0, c.member_at-f.ensures.0)) c.shut_rule.ensures

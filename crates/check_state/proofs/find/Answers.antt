@@ -7,10 +7,10 @@ use lib.Dec.{eqb}
 use borrow.Author.Count.{below_more}
 use borrow.Author.Tests.{eq-eqb, ne_eqb}
 use mathlib.Core.Bool.{Bool, true, false, ◌&&◌}
-use mathlib.Core.Logic.{⊎_elim}
 use mathlib.Core.Path.{◌≡◌, refl, sym, ◌∙◌}
 use native.Mathlib.Omega.{arith}
 use Rattle.check_state.proofs.find.Goals as goal
+use Rattle.check_state.proofs.find.Goals.{then-b-i+else-names, else-b-i}
 
 module _ (same : Equality) (t : Rules.Term) (g x f : ℕ) where
   by_field : (serves : Bool) → eqb f g ≡ true → passes same t g serves x f ≡ (serves && same (var x) t)
@@ -68,10 +68,10 @@ loop-i-smaller c = omega arith
 pub loop-i-preserved : goal.loop-i-preserved
 loop-i-preserved c = (
   omega arith,
-  λ fs D. below_more _ _ (c.loop-i.invariant.1 fs D) (⊎_elim
-      (λ w. by_field _ _ _ _ _ _ (eq-eqb _ _ w.0.taken) ∙ sym (rw w.2.ensures at (w.4.ensures fs D)) ∙ w.5.left)
-      (λ w. by-other _ _ _ _ _ _ (ne_eqb _ _ w.left))
-      c.if-b-i.branch),
+  λ fs D. below_more _ _ (c.loop-i.invariant.1 fs D) (elim c.if-b-i.branch [
+        then-b-i+else-names w ↦ by_field _ _ _ _ _ _ (eq-eqb _ _ w.if-b-i.true) ∙ sym (rw w.in_range.ensures at (w.names.ensures fs D)) ∙ w.if-names.false
+      | else-b-i w ↦ by-other _ _ _ _ _ _ (ne_eqb _ _ w.if-b-i.false)
+      ]),
 )
 
 pub returns : goal.returns

@@ -1,3 +1,7 @@
+use Prim.Native.Nat.{ℕ}
+use Rattle.std.proofs.lemmas.Grind.{common_steps}
+use Rattle.std.proofs.Common.{arith}
+use Rattle.std.proofs.Common.{rules}
 use Rattle.check_state.proofs.Entries.{own-kinds, resolve-path}
 use Rattle.check_state.specs.Questions.{resolved_as}
 use Rattle.check_state.specs.States.{permissions_of, state_of}
@@ -15,17 +19,17 @@ use Rattle.rules.specs.State.{Permission, Equality, equal_in}
 use Rattle.check_state.proofs.resolve.Goals as goal
 
 -- not a path
-rest : (e : Term) → OneOf (0 ∷ 1 ∷ 2 ∷ []) (tag_of the_type e) → (same : Equality) (ps : List Permission) →
+rest : (e : Term) → ((x f : ℕ) → e ≡ Term.Path x f → ⊥) → (same : Equality) (ps : List Permission) →
     ok (meaning e) ≡ Rules.resolve same ps (meaning e)
 unfolding Rules.resolve meaning
 rest (Term.Num n) k same ps = refl
 rest Term.Null k same ps = refl
 rest (Term.Var x) k same ps = refl
-rest (Term.Path x f) k same ps = absurd (miss (0 ∷ 1 ∷ 2 ∷ []) 3 tt k)
+rest (Term.Path x f) k same ps = absurd (k x f refl)
 
 pub returns-in_default : goal.returns-in_default
 unfolding resolved_as
-returns-in_default c = ap ok c.key_of.ensures ∙ rest _ c.in_default.in_default-own.keys2 _ _
+returns-in_default c = ap ok c.key_of.ensures ∙ rest _ c.in_default.not-Path _ _
 
 pub variable_key-k-requires : goal.variable_key-k-requires
 variable_key-k-requires c = tt

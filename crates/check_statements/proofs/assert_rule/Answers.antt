@@ -11,4 +11,4 @@ show-requires c = (c.requires.0, c.requires.1, c.requires.2, c.kinds-left.ensure
 
 pub returns : goal.returns
 returns c =
-    subst (λ (φ : Formula ℕ). Asserts φ (state_of c.args.key.now c.args.b.now) c.show.result) (plain _ _ _) (assert-law c.args.key.now c.args.b.now _ _ c.show.new.1.1.1.1.1.1.1.1.0 c.show.ensures.1)
+    subst (λ (φ : Formula ℕ). Asserts φ (state_of c.args.key.now c.args.b.now) c.show.result) (plain _ _ _) (assert-law c.args.key.now c.args.b.now _ _ c.show.new.left c.show.ensures.1)

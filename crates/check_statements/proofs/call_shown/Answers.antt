@@ -19,7 +19,7 @@ show-k-requires c =
 
 pub returns-in_default : goal.returns-in_default
 returns-in_default c =
-    call-refused c.args.w.now _ _ c.args.m _ c.args.key.now c.args.b.now _ _ _ _ c.requires_first-a.ensures.0 c.requires_count-n.ensures.0 refl refl _ c.show-k.new.1.1.1.1.1.1.1.1.0 c.show-k.ensures.1 c.requires.2 c.in_default.in_default-own.keys2
+    call-refused c.args.w.now _ _ c.args.m _ c.args.key.now c.args.b.now _ _ _ _ c.requires_first-a.ensures.0 c.requires_count-n.ensures.0 refl refl _ c.show-k.new.left c.show-k.ensures.1 c.requires.2 c.in_default.not-Done
 
 pub remainder-requires : goal.remainder-requires
 remainder-requires c = (c.requires.2, c.show-k.ensures.0)
@@ -43,4 +43,4 @@ add-requires c =
 pub returns : goal.returns
 returns c =
     call-done c.args.w.now _ _ c.args.m _ c.args.key.now c.args.b.now _ _ _ _
-    c.requires_first-a.ensures.0 c.requires_count-n.ensures.0 c.ensures_first-c.ensures.0 c.ensures_count-o.ensures.0 _ c.show-k.new.1.1.1.1.1.1.1.1.0 c.show-k.ensures.1 c.in-Done.is _ _ _ _ c.remainder.ensures c.remove.ensures _ _ _ c.add.ensures
+    c.requires_first-a.ensures.0 c.requires_count-n.ensures.0 c.ensures_first-c.ensures.0 c.ensures_count-o.ensures.0 _ c.show-k.new.left c.show-k.ensures.1 c.in-Done.is _ _ _ _ c.remainder.ensures c.remove.ensures _ _ _ c.add.ensures

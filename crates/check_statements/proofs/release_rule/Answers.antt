@@ -19,4 +19,4 @@ remainder-requires c =
 
 pub returns : goal.returns
 returns c =
-    subst (λ (φ : Formula ℕ). Adds (release_rule φ (state_of c.args.key.now c.args.b.now)) c.show-k.result c.remainder.new.0 c.remainder.new.1.0) (plain _ _ _) (release-law c.args.key.now c.args.b.now _ _ _ _ c.show-k.new.1.1.1.1.1.1.1.1.0 c.show-k.ensures.1 c.remainder.ensures)
+    subst (λ (φ : Formula ℕ). Adds (release_rule φ (state_of c.args.key.now c.args.b.now)) c.show-k.result c.remainder.new.key c.remainder.new.b) (plain _ _ _) (release-law c.args.key.now c.args.b.now _ _ _ _ c.show-k.new.left c.show-k.ensures.1 c.remainder.ensures)

@@ -6,7 +6,7 @@ use Rattle.check_statements.proofs.return_rule.Goals as goal
 pub returns-in_default : goal.returns-in_default
 unfolding meaning
 returns-in_default c =
-    (return_refused c.args.x _ (state_of c.args.key.now c.args.b.now) _ _ _ c.assign_rule-k.ensures c.in_default.in_default-own.keys2, c.assign_rule-k.ensures.wf)
+    (return_refused c.args.x _ (state_of c.args.key.now c.args.b.now) _ _ _ c.assign_rule-k.ensures c.in_default.not-Done, c.assign_rule-k.ensures.wf)
 
 pub returns : goal.returns
 unfolding meaning

@@ -1,3 +1,5 @@
+use Rattle.std.proofs.lemmas.Grind.{common_steps}
+use Rattle.std.proofs.Common.{rules}
 use Rattle.check_equality.proofs.Labels.{alike}
 use Rattle.check_equality.specs.Keys.{term_of}
 use Rattle.rules.specs.State.{Term, representative, equal_by}
@@ -13,13 +15,13 @@ use Rattle.check_successors.proofs.path_like.Goals as goal
 
 pub returns-then-not-left : goal.returns-then-not-left
 unfolding path_test
-returns-then-not-left c = λ fs D. rw (not-true c.args.left c.if-not-left.true)
+returns-then-not-left c = search rules
 
 pub returns-then-not-marks-p : goal.returns-then-not-marks-p
 unfolding path_test
 returns-then-not-marks-p c =
     λ fs D.
-    rw (not-false c.args.left c.if-not-left.false)
+    rw (c.if-not-left.false)
     (sym
     (ap (λ (t : Term). equal_by (representative fs) t (term_of c.args.t)) (sym c.path_key-k.ensures.0)
     ∙ unmarked-apart c.requires.0 D _ _ c.requires.1 _ c.requires.2 _ (omega (arith, c.path_key-k.ensures.1)) (ap (λ (p : ℕ). get_or
@@ -29,6 +31,6 @@ pub returns : goal.returns
 unfolding path_test
 returns c =
     λ fs D.
-    rw (not-false c.args.left c.if-not-left.false)
+    rw (c.if-not-left.false)
     (c.alike.ensures ∙ sym (alike D c.requires.0.most _ _ _ _ c.label_of-c.ensures c.requires.1)
     ∙ ap (λ (t : Term). equal_by (representative fs) t (term_of c.args.t)) c.path_key-k.ensures.0)

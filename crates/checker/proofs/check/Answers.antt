@@ -25,7 +25,7 @@ check_method-v-requires c =
 
 pub returns-in_default : goal.returns-in_default
 returns-in_default c =
-    method-stops _ _ _ c.loop-m-test.true _ c.check_method-v.ensures.0 c.in_default.in_default-own.keys2 ∙ sym c.loop-m.invariant.1
+    method-stops _ _ _ c.loop-m-test.true _ c.check_method-v.ensures.0 c.in_default.not-Accepted ∙ sym c.loop-m.invariant.1
 
 pub overflow_add-m : goal.overflow_add-m
 overflow_add-m c =

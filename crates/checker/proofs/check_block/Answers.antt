@@ -12,7 +12,7 @@ line_at-line-requires c = (c.requires.0.size, omega (arith, c.requires.0.rows, c
 
 pub returns-in_default : goal.returns-in_default
 returns-in_default c =
-    (block_refused _ c.requires.0 _ _ _ _ _ _ c.block-r.ensures _ c.line_at-line.ensures.0 c.in_default.in_default-own.keys2, c.block-r.ensures.went.wf)
+    (block_refused _ c.requires.0 _ _ _ _ _ _ c.block-r.ensures _ c.line_at-line.ensures.0 c.in_default.not-Done, c.block-r.ensures.went.wf)
 
 pub kind_at-requires : goal.kind_at-requires
 kind_at-requires c = (c.requires.0.size, omega (arith, c.requires.0.rows, c.block-r.ensures.went.within))

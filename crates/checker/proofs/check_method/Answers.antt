@@ -26,7 +26,7 @@ add-k-requires c =
 pub returns-in_default : goal.returns-in_default
 returns-in_default c =
     (
-      method-refused c.args.w.now c.args.m c.requires_first-a.result c.requires_count-n.result 0 0 0 c.requires_first-a.ensures.0 c.requires_count-n.ensures.0 _ (c.clear.ensures _ c.requires.2.linked.header).same c.add-k.result _ _ c.add-k.ensures c.in_default.in_default-own.keys2,
+      method-refused c.args.w.now c.args.m c.requires_first-a.result c.requires_count-n.result 0 0 0 c.requires_first-a.ensures.0 c.requires_count-n.ensures.0 _ (c.clear.ensures _ c.requires.2.linked.header).same c.add-k.result _ _ c.add-k.ensures c.in_default.not-Done,
       c.add-k.ensures.wf,
     )
 

@@ -4,7 +4,7 @@ use mathlib.Core.Path.{sym}
 use Rattle.checker.proofs.ended.Goals as goal
 
 pub returns-in_default : goal.returns-in_default
-returns-in_default c = refused-verdict _ c.in_default.in_default-own.keys2 _ _
+returns-in_default c = refused-verdict _ c.in_default.not-Done _ _
 
 pub returns : goal.returns
 unfolding verdict_of

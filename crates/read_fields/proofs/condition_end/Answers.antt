@@ -1,3 +1,5 @@
+use Rattle.std.proofs.lemmas.Grind.{common_steps}
+use Rattle.std.proofs.Common.{rules}
 use native.Mathlib.Omega.{arith}
 use mathlib.Core.Path.{sym, ap, ◌∙◌}
 use mathlib.Core.Bool.{true, false}
@@ -33,7 +35,7 @@ pub returns-then-not-row : goal.returns-then-not-row
 returns-then-not-row c =
     let k = c.begun_by.ensures ∙ ap begun_by c.byte_at-2.ensures in
     condition-case c.args.t.now c.args.r (sym c.byte_at.ensures ∙ c.if-byte_at-ne-TAB.false) _
-    (c.row_of-row.ensures ∙ ap atom_row k) false (c.if-not-row.true) c.args.most
+    (c.row_of-row.ensures ∙ ap atom_row k) false (not-true _ c.if-not-row.true) c.args.most
 
 pub formula_end-requires : goal.formula_end-requires
 formula_end-requires c = c.requires
@@ -43,5 +45,5 @@ returns c =
     let k = c.begun_by.ensures ∙ ap begun_by c.byte_at-2.ensures in
     read_as (is_formula c.args.most) (condition_first c.args.most) c.args.t.now c.args.r c.formula_end.result
     (condition-case c.args.t.now c.args.r (sym c.byte_at.ensures ∙ c.if-byte_at-ne-TAB.false) _
-    (c.row_of-row.ensures ∙ ap atom_row k) true (c.if-not-row.false) c.args.most)
+    (c.row_of-row.ensures ∙ ap atom_row k) true (not-false _ c.if-not-row.false) c.args.most)
     c.formula_end.ensures

@@ -1,11 +1,13 @@
+use Rattle.std.proofs.lemmas.Grind.{common_steps}
+use Rattle.std.proofs.Common.{rules}
 use borrow.Author.Tests.{lt-leb}
 use native.Mathlib.Omega.{arith}
 use Rattle.read_fields.proofs.Heads.{packs}
 use Rattle.read_fields.proofs.is_spelled.Goals as goal
 
 pub returns-then-t-e : goal.returns-then-t-e
-returns-then-t-e c = rw (lt-leb _ _ c.if-t-e.true)
+returns-then-t-e c s a n m = search rules
 
 pub returns : goal.returns
-returns c =
+returns c s a n m =
     packs c.args.t.now c.args.a c.args.bytes _ _ s (λ i. omega (arith, c.type_inv.t i)) (omega (arith, c.if-t-e.false)) c.pack.ensures a n m

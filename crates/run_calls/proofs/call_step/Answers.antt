@@ -38,5 +38,5 @@ returns c =
     calls c.requires.0 c.requires.1 _ _ _ _ _ c.y_at-y.ensures.0 c.z_at-z.ensures.0 c.member_at-m.ensures.0
     (c.variable-o.ensures ∙ ap (λ u. variable_at c.args.work.now u.base c.y_at-y.result) c.view_of-v.ensures)
     (c.variable-p.ensures ∙ ap (λ u. variable_at c.args.work.now u.base c.z_at-z.result) c.view_of-v.ensures)
-    (search rules) (search rules) c.admit.new.0 c.admit.result c.if-o-eq0.false
-    (subst (λ u. Admits u c.args.c c.member_at-m.result c.admit.new.0 c.admit.result) c.prepare.ensures c.admit.ensures)
+    (search rules) (search rules) c.admit.new.work c.admit.result c.if-o-eq0.false
+    (subst (λ u. Admits u c.args.c c.member_at-m.result c.admit.new.work c.admit.result) c.prepare.ensures c.admit.ensures)

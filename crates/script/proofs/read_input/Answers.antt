@@ -34,13 +34,13 @@ pub returns-then-n-eq0 : goal.returns-then-n-eq0
 returns-then-n-eq0 c = omega arith
 
 pub overflow_add-done : goal.overflow_add-done
-overflow_add-done c = omega (arith, part-fits c.loop-done.done c.read_more-got.new.0 c.count-n.result (omega arith) c.count-n.ensures.in_bounds.0)
+overflow_add-done c = omega (arith, part-fits c.loop-done.done c.read_more-got.new.area c.count-n.result (omega arith) c.count-n.ensures.in_bounds.0)
 
 pub loop-done-smaller : goal.loop-done-smaller
-loop-done-smaller c = omega (arith, part-fits c.loop-done.done c.read_more-got.new.0 c.count-n.result (omega arith) c.count-n.ensures.in_bounds.0)
+loop-done-smaller c = omega (arith, part-fits c.loop-done.done c.read_more-got.new.area c.count-n.result (omega arith) c.count-n.ensures.in_bounds.0)
 
 pub loop-done-preserved : goal.loop-done-preserved
-loop-done-preserved c = (omega arith, part-fits c.loop-done.done c.read_more-got.new.0 c.count-n.result (omega arith) c.count-n.ensures.in_bounds.0)
+loop-done-preserved c = (omega arith, part-fits c.loop-done.done c.read_more-got.new.area c.count-n.result (omega arith) c.count-n.ensures.in_bounds.0)
 
 pub shape_of-area : goal.shape_of-area
 shape_of-area c = c.loop-done.invariant.0

@@ -5,6 +5,7 @@ use mathlib.Core.Logic.{⊎_elim}
 use mathlib.Core.Path.{sym, ◌∙◌}
 use native.Mathlib.Omega.{arith}
 use Rattle.check_inequality.proofs.by_facts.listed_unequal.Goals as goal
+use Rattle.check_inequality.proofs.by_facts.listed_unequal.Goals.{then-some_unequal+else-unequal_from, else-some_unequal}
 
 pub loop-i-init : goal.loop-i-init
 loop-i-init c = (omega arith, any_none _ _)
@@ -102,13 +103,13 @@ pub loop-i-smaller : goal.loop-i-smaller
 loop-i-smaller c = omega arith
 
 pub loop-i-preserved : goal.loop-i-preserved
-loop-i-preserved c =
-    (
-      omega arith,
-      ⊎_elim (λ w. sym w.1.ensures ∙ w.2.left)
-          (λ w. equal-block c.args.b.now c.args.x c.args.y _ c.loop-i.invariant.1 (sym c.some_unequal.ensures ∙ w.left))
-          c.if-some_unequal.branch,
-    )
+loop-i-preserved c = (
+  omega arith,
+  elim c.if-some_unequal.branch [
+      then-some_unequal+else-unequal_from w ↦ sym w.unequal_from.ensures ∙ w.if-unequal_from.false
+    | else-some_unequal w ↦ equal-block c.args.b.now c.args.x c.args.y _ c.loop-i.invariant.1 (sym c.some_unequal.ensures ∙ w.if-some_unequal.false)
+    ],
+)
 
 pub unequal_from-requires-2 : goal.unequal_from-requires-2
 unequal_from-requires-2 c = (c.loop-i.invariant.0, c.requires, c.loop-i.invariant.1)

@@ -28,7 +28,7 @@ loop-i-init c =
         size = refl;
         at = λ j h g. absurd (omega arith);
       },
-      λ ρ old S. listed-none _ ∙ sym (facts-none ρ old c.fresh.new.0),
+      λ ρ old S. listed-none _ ∙ sym (facts-none ρ old c.fresh.new.b),
       λ j h. refl,
       λ j h.
           refl,
@@ -94,7 +94,7 @@ loop-i-preserved c =
       c.keep_fact-n.ensures.0.linked,
       c.keep_fact-n.ensures.1,
       λ ρ old S. facts-next ρ
-          old c.args.key.now c.fresh.new.0 c.args.gone.now _ c.loop-i.i S (omega arith) _ _ _ _ _ _ c.keep_fact-n.ensures.0.facts c.trivial.ensures (c.loop-i.invariant.5 (left_sides + 2 * c.loop-i.i) (omega arith)) (c.loop-i.invariant.5 (right_sides + 2 * c.loop-i.i) (omega arith)) (c.loop-i.invariant.6 (relations_at + c.loop-i.i) (omega arith)) (c.loop-i.invariant.4 ρ old S),
+          old c.args.key.now c.fresh.new.b c.args.gone.now _ c.loop-i.i S (omega arith) _ _ _ _ _ _ c.keep_fact-n.ensures.0.facts c.trivial.ensures (c.loop-i.invariant.5 (left_sides + 2 * c.loop-i.i) (omega arith)) (c.loop-i.invariant.5 (right_sides + 2 * c.loop-i.i) (omega arith)) (c.loop-i.invariant.6 (relations_at + c.loop-i.i) (omega arith)) (c.loop-i.invariant.4 ρ old S),
       λ j h. c.keep_fact-n.ensures.0.keys j (omega arith) ∙ c.loop-i.invariant.5 j
           (omega arith),
       λ j h. c.keep_fact-n.ensures.0.rest j (omega arith) ∙ c.loop-i.invariant.6 j (omega arith),
@@ -109,5 +109,5 @@ bounds-b-336-2 c = omega (arith, c.requires.fit, c.loop-i.invariant.2.header.siz
 pub returns : goal.returns
 returns c =
     let e : c.loop-i.i ≡ facts c.args.b.now = omega arith in
-    rebuilt-fresh c.args.key.now c.args.b.now c.fresh.new.0 c.loop-i.key c.loop-i.b c.args.gone.now c.loop-i.n c.requires c.fresh.ensures c.loop-i.invariant.2 (λ ρ old S. subst (λ (i : ℕ). facts_in c.loop-i.key
-    c.loop-i.b c.loop-i.n ≡ rename_facts ρ (facts_in old c.fresh.new.0 i)) e (c.loop-i.invariant.4 ρ old S)) (λ j h. c.loop-i.invariant.6 j (omega (arith, c.requires.fit)))
+    rebuilt-fresh c.args.key.now c.args.b.now c.fresh.new.b c.loop-i.key c.loop-i.b c.args.gone.now c.loop-i.n c.requires c.fresh.ensures c.loop-i.invariant.2 (λ ρ old S. subst (λ (i : ℕ). facts_in c.loop-i.key
+    c.loop-i.b c.loop-i.n ≡ rename_facts ρ (facts_in old c.fresh.new.b i)) e (c.loop-i.invariant.4 ρ old S)) (λ j h. c.loop-i.invariant.6 j (omega (arith, c.requires.fit)))

@@ -4,7 +4,7 @@ use Rattle.check_scans.specs.Sides.{Dropped}
 use Rattle.check_scans.proofs.sides.drop_path.Given as goal
 
 abbrev pub invariant-loop-i : goal.invariant-loop-i
-invariant-loop-i l = (left_sides ≤ l.i) × Dropped (λ l. eqb l l.k) l.key l.i l.gone
+invariant-loop-i l = (left_sides ≤ l.i) × Dropped (λ x. eqb x l.k) l.key l.i l.gone
 
 abbrev pub decreases-loop-i : goal.decreases-loop-i
 decreases-loop-i l = l.m - l.i

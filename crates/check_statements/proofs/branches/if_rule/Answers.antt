@@ -11,7 +11,7 @@ add_relation-k-requires c =
 pub returns-in_default : goal.returns-in_default
 returns-in_default c =
     if-refused _ _ _ (state_of c.args.key.now c.args.b.now) _ _ _ _ _ c.add_relation-k.ensures
-    (copied _ _ _ _ c.requires.0 c.requires.1 c.requires.2) c.in_default.in_default-own.keys2
+    (copied _ _ _ _ c.requires.0 c.requires.1 c.requires.2) c.in_default.not-Done
 
 pub add_relation-requires : goal.add_relation-requires
 add_relation-requires c =

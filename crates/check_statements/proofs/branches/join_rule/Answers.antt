@@ -6,7 +6,7 @@ show_end-k-requires c = (c.requires.0, c.requires.1, c.requires.2)
 
 pub returns-in_default : goal.returns-in_default
 returns-in_default c =
-    join_first _ _ _ _ c.show_end-k.ensures _ _ c.requires.2 c.in_default.in_default-own.keys2
+    join_first _ _ _ _ c.show_end-k.ensures _ _ c.requires.2 c.in_default.not-Done
 
 pub show_end-l-requires : goal.show_end-l-requires
 show_end-l-requires c =
@@ -14,7 +14,7 @@ show_end-l-requires c =
 
 pub returns-in_default-l : goal.returns-in_default-l
 returns-in_default-l c =
-    join-second _ _ _ _ c.show_end-k.ensures c.in-Done.is _ c.show_end-l.ensures _ _ c.requires.2 c.in_default-l.in_default-l-own.keys2
+    join-second _ _ _ _ c.show_end-k.ensures c.in-Done.is _ c.show_end-l.ensures _ _ c.requires.2 c.in_default-l.not-Done
 
 pub clear-requires : goal.clear-requires
 clear-requires c =

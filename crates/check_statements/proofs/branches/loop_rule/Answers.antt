@@ -8,7 +8,7 @@ pub show_end-shown-requires : goal.show_end-shown-requires
 show_end-shown-requires c = (c.requires.0, c.requires.2, c.requires.3)
 
 pub returns-in_default : goal.returns-in_default
-returns-in_default c = invariant-unshown _ _ _ _ _ _ c.show_end-shown.ensures _ _ c.requires.3 c.in_default.in_default-own.keys2
+returns-in_default c = invariant-unshown _ _ _ _ _ _ c.show_end-shown.ensures _ _ c.requires.3 c.in_default.not-Done
 
 pub clear-requires : goal.clear-requires
 clear-requires c = c.requires.3.linked.size
@@ -19,7 +19,7 @@ add-added-requires c =
 
 pub returns-in_default-added : goal.returns-in_default-added
 returns-in_default-added c =
-    invariant-refused _ _ _ _ _ _ c.show_end-shown.ensures c.in-Done.is _ _ _ (adds_same _ _ _ _ _ (empty-add _ _ _ _ (c.clear.ensures _ c.requires.3.linked.header).same) c.add-added.ensures) c.in_default-added.in_default-added-own.keys2
+    invariant-refused _ _ _ _ _ _ c.show_end-shown.ensures c.in-Done.is _ _ _ (adds_same _ _ _ _ _ (empty-add _ _ _ _ (c.clear.ensures _ c.requires.3.linked.header).same) c.add-added.ensures) c.in_default-added.not-Done
 
 pub left-l-requires : goal.left-l-requires
 left-l-requires c =

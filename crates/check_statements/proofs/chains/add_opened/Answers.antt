@@ -9,7 +9,7 @@ add_permission-k-requires c = (c.requires.fit, c.requires.linked.size, (omega ar
 
 pub returns-in_default : goal.returns-in_default
 unfolding add_opened permit_of
-returns-in_default c = adds-refused _ _ _ _ (c.add_permission-k.ensures _ c.requires) _ c.in_default.in_default-own.keys2
+returns-in_default c = adds-refused _ _ _ _ (c.add_permission-k.ensures _ c.requires) _ c.in_default.not-Done
 
 pub path_key-path-requires : goal.path_key-path-requires
 path_key-path-requires c = tt
@@ -25,7 +25,7 @@ unfolding add_opened permit_of
 returns-in_default-l c =
     let fact = field-fact _ _ _ _ _ _ c.path_key-path.ensures.0 c.variable_key-value.ensures.0 in
     adds_on _ _ _ _ (c.add_permission-k.ensures _ c.requires) _ c.in-Done.is _ _ _
-    (adds-refused _ _ _ _ (adds_same _ _ _ _ _ fact c.add_fact-l.ensures) _ c.in_default-l.in_default-l-own.keys2)
+    (adds-refused _ _ _ _ (adds_same _ _ _ _ _ fact c.add_fact-l.ensures) _ c.in_default-l.not-Done)
 
 pub add_permission-requires : goal.add_permission-requires
 add_permission-requires c = (c.add_fact-l.ensures.wf.fit, c.add_fact-l.ensures.wf.linked.size, (omega arith, omega arith))

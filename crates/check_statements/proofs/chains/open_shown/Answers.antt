@@ -14,7 +14,7 @@ take-k-requires c = (c.requires, start_fits _ _ _ c.requires c.kinds-left.ensure
 
 pub returns-in_default : goal.returns-in_default
 returns-in_default c =
-    open-refused c.args.key.now c.args.b.now c.requires _ c.kinds-left.ensures _ _ _ c.take-k.new.1.1.0 c.take-k.ensures.1 _ _ c.variable_key-v.ensures.0 c.in_default.in_default-own.keys2
+    open-refused c.args.key.now c.args.b.now c.requires _ c.kinds-left.ensures _ _ _ c.take-k.new.left c.take-k.ensures.1 _ _ c.variable_key-v.ensures.0 c.in_default.not-Done
 
 pub remainder-requires : goal.remainder-requires
 remainder-requires c = (c.requires, c.take-k.ensures.0)
@@ -28,7 +28,7 @@ add_opened-requires c = c.remove.ensures.wf
 pub returns : goal.returns
 returns c =
     open_done c.args.key.now c.args.b.now c.requires _
-    c.kinds-left.ensures _ _ _ c.take-k.new.1.1.0
+    c.kinds-left.ensures _ _ _ c.take-k.new.left
     c.take-k.ensures.1 _ _ c.variable_key-v.ensures.0
     c.in-Done.is _ _ _ _ c.remainder.ensures
     c.remove.ensures _ _ _ c.add_opened.ensures

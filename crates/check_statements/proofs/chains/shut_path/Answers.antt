@@ -11,7 +11,7 @@ take-k-requires c = (c.requires, start_fits _ _ _ c.requires c.kinds-left.ensure
 
 pub returns-in_default : goal.returns-in_default
 returns-in_default c =
-    shut-first c.args.key.now c.args.b.now c.requires _ c.kinds-left.ensures _ _ _ c.take-k.new.1.1.0 c.take-k.ensures.1 _ c.in_default.in_default-own.keys2
+    shut-first c.args.key.now c.args.b.now c.requires _ c.kinds-left.ensures _ _ _ c.take-k.new.left c.take-k.ensures.1 _ c.in_default.not-Done
 
 pub variable_key-v-requires : goal.variable_key-v-requires
 variable_key-v-requires c = tt
@@ -22,8 +22,8 @@ take-l-requires c = (c.requires, c.take-k.ensures.0, (omega arith, omega arith))
 pub returns-in_default-l : goal.returns-in_default-l
 returns-in_default-l c =
     shut-second c.args.key.now c.args.b.now c.requires _ c.kinds-left.ensures _ _ _
-    c.take-k.new.1.1.0 c.take-k.ensures.1 _ c.in-Done.is _ c.variable_key-v.ensures.0 _
-    c.take-l.new.1.1.0 c.take-l.ensures.1 c.in_default-l.in_default-l-own.keys2
+    c.take-k.new.left c.take-k.ensures.1 _ c.in-Done.is _ c.variable_key-v.ensures.0 _
+    c.take-l.new.left c.take-l.ensures.1 c.in_default-l.not-Done
 
 pub remainder-requires : goal.remainder-requires
 remainder-requires c = (c.requires, c.take-l.ensures.0)
@@ -35,6 +35,6 @@ pub returns : goal.returns
 returns c =
     shut-done c.args.key.now c.args.b.now c.requires _
     c.kinds-left.ensures _ _ _
-    c.take-k.new.1.1.0 c.take-k.ensures.1 _ c.in-Done.is _
-    c.variable_key-v.ensures.0 _ c.take-l.new.1.1.0 c.take-l.ensures.1
+    c.take-k.new.left c.take-k.ensures.1 _ c.in-Done.is _
+    c.variable_key-v.ensures.0 _ c.take-l.new.left c.take-l.ensures.1
     c.in-Done-l.is _ _ c.remainder.ensures _ _ (c.add_permission.ensures _ c.remainder.ensures.wf)

@@ -31,7 +31,7 @@ pub returns-in_default : goal.returns-in_default
 unfolding permit_of
 returns-in_default c =
     adds_same _ _ c.add_permission-k.result _ _ (sym (c.loop-j.invariant.2 ∙ permission-more c.args.w.now c.args.c c.args.x c.args.n c.loop-j.j c.loop-j-test.true (state_of c.args.key.now c.loop-j.b))) (adds-refused _ _ _ _ (subst (λ (f : ℕ).
-    Adds (Rules.add_permission (entry acc c.args.x f) (state_of c.args.key.now c.loop-j.b)) c.add_permission-k.result c.args.key.now c.add_permission-k.new.0) c.field_name_at.ensures.0 (c.add_permission-k.ensures _ c.loop-j.invariant.1)) _ c.in_default.in_default-own.keys2)
+    Adds (Rules.add_permission (entry acc c.args.x f) (state_of c.args.key.now c.loop-j.b)) c.add_permission-k.result c.args.key.now c.add_permission-k.new.b) c.field_name_at.ensures.0 (c.add_permission-k.ensures _ c.loop-j.invariant.1)) _ c.in_default.not-Done)
 
 pub overflow_add-j : goal.overflow_add-j
 overflow_add-j c = omega arith
@@ -46,7 +46,7 @@ loop-j-preserved c =
       omega arith,
       (c.add_permission-k.ensures _ c.loop-j.invariant.1).wf,
       c.loop-j.invariant.2 ∙ permission-more c.args.w.now c.args.c c.args.x c.args.n c.loop-j.j c.loop-j-test.true (state_of c.args.key.now c.loop-j.b) ∙ after-done _ _ _ (subst (λ (f :
-          ℕ). Adds (Rules.add_permission (entry acc c.args.x f) (state_of c.args.key.now c.loop-j.b)) c.add_permission-k.result c.args.key.now c.add_permission-k.new.0) c.field_name_at.ensures.0 (c.add_permission-k.ensures _ c.loop-j.invariant.1)).same _
+          ℕ). Adds (Rules.add_permission (entry acc c.args.x f) (state_of c.args.key.now c.loop-j.b)) c.add_permission-k.result c.args.key.now c.add_permission-k.new.b) c.field_name_at.ensures.0 (c.add_permission-k.ensures _ c.loop-j.invariant.1)).same _
           c.in-Done.is,
     )
 

@@ -37,7 +37,7 @@ pub returns-in_default : goal.returns-in_default
 returns-in_default c =
     adds_same _ _ c.add_fact-k.result _ _ (sym (c.loop-j.invariant.2 ∙ initial-more c.args.w.now c.args.c c.args.x
     c.args.n c.loop-j.j c.loop-j-test.true (state_of c.loop-j.key c.loop-j.b))) (adds-refused _ _ _ _ (adds_same _ _ c.add_fact-k.result _ _ (field-fact _ _ _ _ _ (state_of c.loop-j.key c.loop-j.b) (c.path_key-path.ensures.0 ∙ ap (λ (f : ℕ). path c.args.x
-    f) c.field_name_at.ensures.0) (c.initial.ensures ∙ ap initial_of c.field_kind_at.ensures.0)) c.add_fact-k.ensures) _ c.in_default.in_default-own.keys2)
+    f) c.field_name_at.ensures.0) (c.initial.ensures ∙ ap initial_of c.field_kind_at.ensures.0)) c.add_fact-k.ensures) _ c.in_default.not-Done)
 
 pub overflow_add-j : goal.overflow_add-j
 overflow_add-j c = omega arith

@@ -4,7 +4,7 @@ use native.Mathlib.Omega.{arith}
 use Rattle.checker.proofs.parts.closed.Goals as goal
 
 pub returns-in_default : goal.returns-in_default
-returns-in_default c = closed-refused _ c.requires.0 _ c.requires.3 _ _ c.in_default.in_default-own.keys2 _ _ c.requires.4
+returns-in_default c after l = closed-refused _ c.requires.0 _ c.requires.3 _ _ c.in_default.not-Done _ _ c.requires.4
 
 pub kind_at-requires : goal.kind_at-requires
 kind_at-requires c =

@@ -5,7 +5,7 @@ use Rattle.checker.proofs.parts.joined.Goals as goal
 
 pub returns-in_default : goal.returns-in_default
 returns-in_default c =
-    closed-refused _ c.requires.0 _ c.requires.1 _ _ c.in_default.in_default-own.keys2 _ _ c.requires.2
+    closed-refused _ c.requires.0 _ c.requires.1 _ _ c.in_default.not-Done _ _ c.requires.2
 
 pub kind_at-requires : goal.kind_at-requires
 kind_at-requires c =

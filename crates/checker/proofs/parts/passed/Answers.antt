@@ -7,7 +7,7 @@ pub stopped-requires : goal.stopped-requires
 stopped-requires c = tt
 
 pub returns-in_default : goal.returns-in_default
-returns-in_default c = c.stopped.ensures ∙ passed-refused _ _ c.in_default.in_default-own.keys2
+returns-in_default c = c.stopped.ensures ∙ passed-refused _ _ c.in_default.not-Done
 
 pub overflow_add-i : goal.overflow_add-i
 overflow_add-i c = omega (arith, c.requires)

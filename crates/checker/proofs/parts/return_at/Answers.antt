@@ -17,7 +17,7 @@ stopped-requires c = tt
 
 pub returns-in_default : goal.returns-in_default
 returns-in_default c =
-    return-stops _ c.requires.0 _ c.requires.1 c.requires.2 _ _ _ _ c.return_rule-k.ensures.1 _ c.x_at-x.ensures.0 _ c.return_rule-k.ensures.0 c.in_default.in_default-own.keys2 _ c.stopped.ensures
+    return-stops _ c.requires.0 _ c.requires.1 c.requires.2 _ _ _ _ c.return_rule-k.ensures.1 _ c.x_at-x.ensures.0 _ c.return_rule-k.ensures.0 c.in_default.not-Done _ c.stopped.ensures
 
 pub overflow_add-result : goal.overflow_add-result
 overflow_add-result c =

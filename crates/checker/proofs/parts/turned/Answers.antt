@@ -4,7 +4,7 @@ use native.Mathlib.Omega.{arith}
 use Rattle.checker.proofs.parts.turned.Goals as goal
 
 pub returns-in_default : goal.returns-in_default
-returns-in_default c = turned-refused _ c.requires.0 _ c.requires.1 c.in_default.in_default-own.keys2
+returns-in_default c = turned-refused _ c.requires.0 _ c.requires.1 c.in_default.not-Done
 
 pub kind_at-requires : goal.kind_at-requires
 kind_at-requires c =
