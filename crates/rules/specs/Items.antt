@@ -1,6 +1,6 @@
 -- What each line adds to the program, its names resolved to numbers: numbers 6, 7, 9 line by line.
 use Rattle.std.specs.Prelude.{List, [], ◌∷◌, map, ℕ, suc, drop}
-use Rattle.rules.specs.Base.{Name, Try, ok, ◌>>=◌, ◌>>◌, check, is}
+use Rattle.rules.specs.Base.{Name, Try, ok, ◌>>◌, check, is}
 use Rattle.rules.specs.Answers.{Refusal, Verdict, accepted, at_line, then, undeclared, wrong_type, wrong_target}
 use Rattle.rules.specs.Syntax as Syntax
 use Rattle.rules.specs.Syntax.{Expr, Atom, Formula, Operation, Stmt, num, null, var, path, own, cmp, sum, difference}

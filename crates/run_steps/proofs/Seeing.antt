@@ -484,9 +484,9 @@ module _ {w : List ℕ} {v : View} {h : Heap} {F : Frame} (S : Sees w v h F) whe
                 ap (λ (l : List ℕ). halves (places f l) p) (ok-inj e),
               ),
         )
+        go (no r) (no t) q neither e = no_ok e
         go (ok C) (no t) q x6 e = elim x6 [ ]
         go (no r) (ok us) q x5 e = elim x5 [ ]
-        go (no r) (no t) q neither e = no_ok e
 
     -- the chain is one more of the shares
     chain_more :
@@ -612,8 +612,6 @@ module _ {w : List ℕ} {v : View} {h : Heap} {F : Frame} (S : Sees w v h F) whe
       go : (b : Bool) → Agree Taken (check b formula_false >> g) (check b formula_false >> j)
       go true = rest
       go false = stops_so
-      go (ok A) (no q) x4 e = elim x4 [ ]
-      go (no r) (ok ss) x4 e = elim x4 [ ]
   cmp_step n (ok l) (no s) g j rest = stops_so
   cmp_step n (no s) b g j rest = stops_so
 
@@ -639,8 +637,6 @@ module _ {w : List ℕ} {v : View} {h : Heap} {F : Frame} (S : Sees w v h F) whe
       go : (a : Try Stop (List Location)) (b : Try Stop (List ℕ)) → Agree Taken a b → b ≡ no s → a ≡ no s
       go (ok A) (ok ss) (took-so M) e = absurd (let z : ◌≡◌ {A = ℕ} 0 1 = cc in omega arith)
       go (no r) (no q) stops_so e = cc
-      go (ok A) (no s) q x6 e = elim x6 [ ]
-      go (no r) (ok rs) q x5 e = elim x5 [ ]
       go (ok A) (no q) x4 e = elim x4 [ ]
       go (no r) (ok ss) x4 e = elim x4 [ ]
 

@@ -8,7 +8,7 @@ use Rattle.printer.proofs.+put_digits.Goals as goal
 
 pub put-requires : goal.put-requires
 put-requires t c =
-    omega (arith, c.requires.1)
+    omega (arith, c.requires)
 
 pub shape_of-out-then-k-eq0 : goal.shape_of-out-then-k-eq0
 shape_of-out-then-k-eq0 t c =
@@ -20,7 +20,7 @@ returns-then-k-eq0 t c =
 
 pub put-requires-then-n-lt-BASE : goal.put-requires-then-n-lt-BASE
 put-requires-then-n-lt-BASE t c =
-    omega (arith, c.requires.1)
+    omega (arith, c.requires)
 
 pub shape_of-out-then-n-lt-BASE : goal.shape_of-out-then-n-lt-BASE
 shape_of-out-then-n-lt-BASE t c =
@@ -32,11 +32,11 @@ returns-then-n-lt-BASE t c =
 
 pub put_digits-e-requires : goal.put_digits-e-requires
 put_digits-e-requires t c =
-    (omega (arith, c.requires.0, c.if-k-eq0.false), omega (arith, c.requires.1, c.if-k-eq0.false))
+    (omega (arith, c.if-k-eq0.false), omega (arith, c.requires, c.if-k-eq0.false))
 
 pub put-requires-2 : goal.put-requires-2
 put-requires-2 t c =
-    omega (arith, c.requires.1, c.put_digits-e.ensures.end, c.put_digits-e.ensures.size, digits-few (c.args.k - 1) (c.args.n / 10), c.if-k-eq0.false)
+    omega (arith, c.requires, c.put_digits-e.ensures.end, c.put_digits-e.ensures.size, digits-few (c.args.k - 1) (c.args.n / 10), c.if-k-eq0.false)
 
 pub shape_of-out : goal.shape_of-out
 shape_of-out t c =

@@ -8,7 +8,7 @@ use Rattle.small.proofs.+put_mains.Goals as goal
 
 pub put_accepted-requires : goal.put_accepted-requires
 put_accepted-requires t c =
-    (c.requires.1.0, omega (arith, c.requires.1.2, room-one (places_in c.args.m) c.args.left c.if-left-eq0.true))
+    (c.requires.0, omega (arith, c.requires.2, room-one (places_in c.args.m) c.args.left c.if-left-eq0.true))
 
 pub returns-then-left-eq0 : goal.returns-then-left-eq0
 returns-then-left-eq0 t c =
@@ -16,7 +16,7 @@ returns-then-left-eq0 t c =
 
 pub loop-place-init : goal.loop-place-init
 loop-place-init t c =
-    (omega arith, none_yet (places_in c.args.m) _ (omega (arith, c.requires.1.2)))
+    (omega arith, none_yet (places_in c.args.m) _ (omega (arith, c.requires.2)))
 
 pub overflow_add-place : goal.overflow_add-place
 overflow_add-place t c =
@@ -28,12 +28,12 @@ overflow_sub-left t c =
 
 pub with_place-requires : goal.with_place-requires
 with_place-requires t c =
-    (c.requires.1.0, omega (arith, c.requires.1.1, c.if-left-eq0.false), is_place (c.loop-place.place + 1) (omega arith) (omega (arith, c.loop-place-test.true)))
+    (c.requires.0, omega (arith, c.requires.1, c.if-left-eq0.false), is_place (c.loop-place.place + 1) (omega arith) (omega (arith, c.loop-place-test.true)))
 
 pub put_mains-e-requires : goal.put_mains-e-requires
 put_mains-e-requires t c =
     let m = places_in c.args.m in
-    (omega (arith, c.requires.0, c.if-left-eq0.false), (c.with_place.ensures.known, omega (arith, c.requires.1.1, c.if-left-eq0.false, c.with_place.ensures.count), room-on m (places_in c.with_place.result) _ c.loop-place.place c.loop-place-test.true c.with_place.ensures.places (omega (arith, c.requires.1.2, c.loop-place.invariant.1.size, ap room (all_after m c.args.left c.if-left-eq0.false))) c.loop-place.invariant.1))
+    (omega (arith, c.if-left-eq0.false), (c.with_place.ensures.known, omega (arith, c.requires.1, c.if-left-eq0.false, c.with_place.ensures.count), room-on m (places_in c.with_place.result) _ c.loop-place.place c.loop-place-test.true c.with_place.ensures.places (omega (arith, c.requires.2, c.loop-place.invariant.1.size, ap room (all_after m c.args.left c.if-left-eq0.false))) c.loop-place.invariant.1))
 
 pub loop-place-smaller : goal.loop-place-smaller
 loop-place-smaller t c =

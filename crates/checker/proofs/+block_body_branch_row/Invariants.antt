@@ -1,0 +1,24 @@
+-- The measure is three times the depth, and two more in a block and one in a row.
+use Prim.Native.Nat.{◌+◌, ◌*◌, ◌-◌}
+use Rattle.tables.specs.Decode.{row_count, atoms_from}
+use Rattle.check_state.specs.States.{state_of}
+use Rattle.checker.proofs.Blocks.{Going}
+use Rattle.checker.proofs.+block_body_branch_row.Given as goal
+
+abbrev pub decreases-block : goal.decreases-block
+decreases-block l = l.depth * 3 + 2
+
+abbrev pub decreases-body : goal.decreases-body
+decreases-body l = l.depth * 3
+
+abbrev pub decreases-branch : goal.decreases-branch
+decreases-branch l = l.depth * 3
+
+abbrev pub decreases-row : goal.decreases-row
+decreases-row l = l.depth * 3 + 1
+
+abbrev pub invariant-block-loop-key : goal.invariant-block-loop-key
+invariant-block-loop-key l = Going l.w l.depth l.from (atoms_from l.w l.a l.n) (state_of l.initial.key l.initial.b) l.at l.key l.b
+
+abbrev pub decreases-block-loop-key : goal.decreases-block-loop-key
+decreases-block-loop-key l = row_count l.w - l.at
