@@ -27,7 +27,7 @@ use Rattle.filling.proofs.Star.{Parts, one-star, Scanned, scan-parts, Resolved, 
 use Rattle.filling.proofs.Programs.{framed-with}
 use Rattle.filling.proofs.Resolved.{Good, atom_of, named-all, line-resolved}
 use Rattle.filling.proofs.Accesses.{numbered}
-use Rattle.filling.proofs.AtStar.{lines_with, items_with, star_method, variables, star-variables, star-method, star-good, star-numbers, star-program, star-there}
+use Rattle.filling.proofs.AtStar.{lines_with, items_with, star_method, star-variables, star-method, star-good, star-numbers, star-program, star-there}
 
 pub record StarRead (ls : List Name) (ks : List Line) (items : List Item) (l : ℕ) : Type 0 where
   pub seen : List Variable

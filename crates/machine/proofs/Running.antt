@@ -1,4 +1,5 @@
 -- A run: the first state, each step, and the end.
+use Rattle.run_heap.specs.Views.{saved_holder, saved_row}
 use mathlib.Core.Path.{◌≡◌, refl, sym, ap, ◌∙◌, subst}
 use mathlib.Core.List.{List, [], ◌∷◌}
 use mathlib.Core.Logic.{inl}
@@ -126,7 +127,8 @@ main-values :
     take values_shown (drop 2 (main_frame F Fs).values) ≡ main_values w
 unfolding main_frame CallersAre
 main-values w n bound number row F [] I C = frame-values w n number row F I
-main-values w n bound number row F (G ∷ Fs) I C = main-values w n _ _ _ G Fs C.0.frame C.1
+main-values w n bound number row F (G ∷ Fs) I C =
+    main-values w n (saved_holder w (length Fs)) (saved_holder w (length Fs)) (saved_row w (length Fs)) G Fs C.0.frame C.1
 
 -- THE END
 pub ends-are :

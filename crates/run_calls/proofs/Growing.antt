@@ -55,7 +55,8 @@ class-has w c j (suc n) zero l =
     or_left (eqb (field_name_at w c j) (field_name_at w c (j + 0))) _ (rw add-zero (eqb_refl (field_name_at w c j)))
 class-has w c j (suc n) (suc p) l =
     let e : j + suc p ≡ suc j + p = omega arith in
-    or_right (eqb (field_name_at w c j) (field_name_at w c (j + suc p))) _ (rw e (class-has w c (suc j) n p (omega arith)))
+    or_right (eqb (field_name_at w c j) (field_name_at w c (j + suc p))) _
+    (subst (λ (x : ℕ). Has (map new_cell (fields_from w c (suc j) n)) (field_name_at w c x)) (sym e) (class-has w c (suc j) n p (omega arith)))
 
 has-name :
     (w : List ℕ) (c j n f : ℕ) → Has (map new_cell (fields_from w c j n)) f → (p : ℕ) × (p < n) × (field_name_at w c (j + p) ≡ f)

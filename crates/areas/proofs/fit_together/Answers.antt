@@ -1,5 +1,4 @@
 use mathlib.Core.Path.{◌≡◌, subst}
-use Prim.Native.Nat.{◌-◌}
 use native.Mathlib.Omega.{arith}
 use native.Mathlib.Numerals.{add-one}
 use Rattle.areas.proofs.Shares.{Left, left-none, left-more, zero-fails, more-fails, all_fit}

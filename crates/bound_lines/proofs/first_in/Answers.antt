@@ -1,5 +1,4 @@
 use mathlib.Core.Path.{refl, sym, ap, ◌∙◌}
-use Prim.Native.Nat.{◌-◌}
 use native.Mathlib.Omega.{arith}
 use Rattle.bound_lines.specs.declared.Place.TheVariants.{At}
 use Rattle.bound_lines.proofs.Firsts.{call-is-there, is-refused, is_last, is-passed}

@@ -1,5 +1,4 @@
 use mathlib.Core.Path.{◌∙◌}
-use Prim.Native.Nat.{◌-◌}
 use native.Mathlib.Omega.{arith}
 use Rattle.bound_lines.proofs.Firsts.{place-whole, place_here, place-later, place-main}
 use Rattle.bound_lines.proofs.first_line.Goals as goal

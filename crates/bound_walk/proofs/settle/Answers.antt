@@ -1,12 +1,11 @@
 use Rattle.std.proofs.Common.{rules}
 use mathlib.Core.Path.{◌≡◌, sym, subst, ap, ◌∙◌}
-use mathlib.Core.Bool.{false}
 use native.Mathlib.Omega.{arith}
 use lib.ListN.{get_or}
 use Rattle.bound_walk.specs.Counting.{fresh}
 use Rattle.bound_walk.specs.declared.Route.{Route}
 use Rattle.bound_walk.specs.Walk.{Walking, is_new}
-use Rattle.bound_walk.proofs.Walks.{begun-walking, begun-on, begun-keeps, begun-start, walk_ends, turned-stop, turned_on, settles-at}
+use Rattle.bound_walk.proofs.Walks.{begun-walking, begun-on, begun-keeps, begun-start, walk_ends, settles-at}
 use Rattle.bound_walk.proofs.settle.Goals as goal
 
 pub begin-r-requires : goal.begin-r-requires

@@ -1,6 +1,4 @@
 use mathlib.Core.Path.{refl}
-use mathlib.Core.Bool.{false}
-use Prim.Native.Nat.{◌-◌}
 use native.Mathlib.Omega.{arith}
 use Rattle.bound_walk.proofs.Walks.{rested-first, settles-stop, settles_on, reckons-at}
 use Rattle.bound_walk.proofs.settle_all.Goals as goal

@@ -1,6 +1,3 @@
-use Rattle.std.proofs.lemmas.Grind.{common_steps}
-use Rattle.std.proofs.Common.{arith}
-use Rattle.std.proofs.Common.{rules}
 use Rattle.check_entailment.proofs.Showing.{access-shown}
 use Rattle.check_entailment.proofs.show_access.Goals as goal
 

@@ -1,4 +1,3 @@
-use Prim.Native.Nat.{◌-◌}
 use Rattle.check_entries.proofs.Keeping.{flags-more}
 use Rattle.check_equality.specs.Keys.{term_of}
 use Rattle.check_equality.proofs.Keys.{same_key}

@@ -1,4 +1,3 @@
-use Prim.Native.Nat.{◌-◌}
 use Rattle.check_entries.proofs.Keeping.{flags-more}
 use lib.ListN.{length-set}
 use mathlib.Core.Path.{refl, ◌∙◌}

@@ -1,4 +1,3 @@
-use Prim.Native.Nat.{◌-◌}
 use Rattle.check_entries.proofs.Keeping.{renamed-more}
 use Rattle.check_state.specs.States.{entries}
 use mathlib.Core.Path.{◌≡◌, refl}

@@ -1,4 +1,3 @@
-use Prim.Native.Nat.{◌-◌}
 use Rattle.rules.specs.Limits.{most_permissions}
 use Rattle.check_entries.proofs.Halves.{stored_more}
 use Rattle.check_entries.proofs.Keeping.{flags-more}

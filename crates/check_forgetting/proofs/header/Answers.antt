@@ -1,4 +1,3 @@
-use Prim.Native.Nat.{◌-◌}
 use Rattle.check_labels.proofs.FreshLabels.{own-more}
 use Rattle.check_forgetting.proofs.Starts.{header-from}
 use lib.ListN.{length-set}

@@ -1,4 +1,3 @@
-use Prim.Native.Nat.{◌-◌}
 use Rattle.check_inequality.proofs.Pairs.{two_past, two-found, two-neither, two-without-t, two-without-u, two-unnamed}
 use Rattle.check_inequality.proofs.Searches.{or-none-left, or-none-right}
 use Rattle.check_state.specs.States.{permission_at}

@@ -1,4 +1,3 @@
-use Prim.Native.Nat.{◌-◌}
 use native.Mathlib.Omega.{arith}
 use Rattle.check_labels.proofs.Relabelling.{fits_more}
 use Rattle.check_labels.proofs.fits.Goals as goal

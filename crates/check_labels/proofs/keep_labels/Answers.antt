@@ -1,5 +1,3 @@
-use Rattle.std.proofs.lemmas.Grind.{common_steps}
-use Rattle.std.proofs.Common.{rules}
 use Prim.Native.Nat.{ℕ}
 use native.Mathlib.Omega.{arith}
 use mathlib.Core.List.{List}
@@ -18,7 +16,7 @@ returns-then-fits c =
     subst (λ (l : List ℕ). Relabelled b c.args.m x l) (sym (c.set_label-then-fits.ensures ∙ ap (with_label x x) c.set_label.ensures))
     (relabelled-first b x c.requires.0 c.requires.3.size c.args.m 0 _ c.requires.1
     (fits_kept (with_label x 0 b) x c.requires.0 (label-size b x c.requires.0 c.requires.3.size 0) c.args.m c.requires.1 c.requires.2
-    (subst (λ (l : List ℕ). LabelsFit l c.args.m c.args.m x) c.set_label.ensures (c.fits2.ensures c.if-fits.true))))
+    (subst (λ (l : List ℕ). LabelsFit l c.args.m c.args.m x) c.set_label.ensures (c.fits.ensures c.if-fits.true))))
 
 pub relabel-requires : goal.relabel-requires
 relabel-requires c =

@@ -1,4 +1,4 @@
-use Prim.Native.Nat.{ℕ, ◌-◌, ◌<◌}
+use Prim.Native.Nat.{ℕ, ◌<◌}
 use mathlib.Core.Path.{sym, subst}
 use Rattle.check_equality.specs.Layout.{slots}
 use Rattle.check_labels.specs.Labels.{Named}

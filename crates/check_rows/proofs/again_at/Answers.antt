@@ -28,4 +28,4 @@ loop_rule-requires c =
 
 pub returns : goal.returns
 returns c =
-    subst (λ (t : Try Refusal Rules.State). Adds t c.loop_rule.result c.loop_rule.last.1.1.1.1.1.0 c.loop_rule.last.1.1.1.1.1.1.0) (rw (c.atom_kind-apart.ensures.0, opposite-relation, c.first_atom_at-a.ensures.0, c.atom_count_at-n.ensures.0)) c.loop_rule.ensures
+    subst (λ (t : Try Refusal Rules.State). Adds t c.loop_rule.result c.loop_rule.new.key c.loop_rule.new.b) (rw (c.atom_kind-apart.ensures.0, opposite-relation, c.first_atom_at-a.ensures.0, c.atom_count_at-n.ensures.0)) c.loop_rule.ensures

@@ -34,4 +34,4 @@ if_rule-requires c =
 
 pub returns : goal.returns
 returns c =
-    subst (λ (t : Try Refusal (Rules.State × Rules.State)). Parts t c.if_rule.result c.if_rule.last.0 c.if_rule.last.1.0 c.if_rule.last.1.1.0 c.if_rule.last.1.1.1.0) (rw (c.atom_kind-apart.ensures.0, relation, c.left-l.ensures, c.right-r.ensures, plain-term, plain-term, c.first_atom_at-a.ensures.0)) c.if_rule.ensures
+    subst (λ (t : Try Refusal (Rules.State × Rules.State)). Parts t c.if_rule.result c.if_rule.new.key c.if_rule.new.b c.if_rule.new.key2 c.if_rule.new.b2) (rw (c.atom_kind-apart.ensures.0, relation, c.left-l.ensures, c.right-r.ensures, plain-term, plain-term, c.first_atom_at-a.ensures.0)) c.if_rule.ensures

@@ -72,7 +72,7 @@ compute_at-requires c = (c.requires.0, c.requires.1, c.requires.3)
 
 pub returns-in-19 : goal.returns-in-19
 returns-in-19 c =
-    record { statement = _; is = compute-means _ _ (computes _ _ c.kind_at.ensures c.if-this-lt19.false c.in-19.if-this-lt21-own.true); adds = c.compute_at.ensures }
+    record { statement = _; is = compute-means _ _ (computes _ _ c.kind_at.ensures c.in-19.if-this-lt19-own.false c.in-19.if-this-lt21-own.true); adds = c.compute_at.ensures }
 
 pub returns-in-0-to-7 : goal.returns-in-0-to-7
 unfolding statement_number
@@ -82,13 +82,13 @@ returns-in-0-to-7 c =
 pub returns-in-0-to-7-2 : goal.returns-in-0-to-7-2
 returns-in-0-to-7-2 c =
     absurd
-    (no_kind _ (c.requires.0.row_fits c.args.i c.requires.1).operands.kind c.requires.2 (λ e. c.in_default-1.rest.0.0.0.0.0.0.0.0.1 (c.kind_at.ensures ∙ e)) (λ e. c.in_default-1.rest.0.0.0.0.0.0.0.1 (c.kind_at.ensures ∙ e)) (λ e. c.in_default-1.rest.0.0.0.0.0.0.1 (c.kind_at.ensures ∙ e))
-    (λ e. c.in_default-1.rest.0.0.0.0.0.1 (c.kind_at.ensures ∙ e)) (λ e. c.in_default-1.rest.0.0.0.0.1 (c.kind_at.ensures ∙ e)) (λ e. c.in_default-1.rest.0.0.0.1 (c.kind_at.ensures ∙ e))
-    (λ e. c.in_default-1.rest.0.0.1 (c.kind_at.ensures ∙ e)) (λ e. c.in_default-1.rest.0.1 (c.kind_at.ensures ∙ e)) (inl (omega (arith, c.kind_at.ensures, c.in-0-to-7.if-this-lt19-own.true))))
+    (no_kind _ (c.requires.0.row_fits c.args.i c.requires.1).operands.kind c.requires.2 (λ e. c.in-0-to-7.in_default-own.rest.0.0.0.0.0.0.0.0.1 (c.kind_at.ensures ∙ e)) (λ e. c.in-0-to-7.in_default-own.rest.0.0.0.0.0.0.0.1 (c.kind_at.ensures ∙ e)) (λ e. c.in-0-to-7.in_default-own.rest.0.0.0.0.0.0.1 (c.kind_at.ensures ∙ e))
+    (λ e. c.in-0-to-7.in_default-own.rest.0.0.0.0.0.1 (c.kind_at.ensures ∙ e)) (λ e. c.in-0-to-7.in_default-own.rest.0.0.0.0.1 (c.kind_at.ensures ∙ e)) (λ e. c.in-0-to-7.in_default-own.rest.0.0.0.1 (c.kind_at.ensures ∙ e))
+    (λ e. c.in-0-to-7.in_default-own.rest.0.0.1 (c.kind_at.ensures ∙ e)) (λ e. c.in-0-to-7.in_default-own.rest.0.1 (c.kind_at.ensures ∙ e)) (inl (omega (arith, c.kind_at.ensures, c.in-0-to-7.if-this-lt19-own.true))))
 
 pub returns-in-0-to-7-3 : goal.returns-in-0-to-7-3
 returns-in-0-to-7-3 c =
     absurd
-    (no_kind _ (c.requires.0.row_fits c.args.i c.requires.1).operands.kind c.requires.2 (λ e. c.in_default-1.rest.0.0.0.0.0.0.0.0.1 (c.kind_at.ensures ∙ e)) (λ e. c.in_default-1.rest.0.0.0.0.0.0.0.1 (c.kind_at.ensures ∙ e)) (λ e. c.in_default-1.rest.0.0.0.0.0.0.1 (c.kind_at.ensures ∙ e))
-    (λ e. c.in_default-1.rest.0.0.0.0.0.1 (c.kind_at.ensures ∙ e)) (λ e. c.in_default-1.rest.0.0.0.0.1 (c.kind_at.ensures ∙ e)) (λ e. c.in_default-1.rest.0.0.0.1 (c.kind_at.ensures ∙ e))
-    (λ e. c.in_default-1.rest.0.0.1 (c.kind_at.ensures ∙ e)) (λ e. c.in_default-1.rest.0.1 (c.kind_at.ensures ∙ e)) (inr (omega (arith, c.kind_at.ensures, c.in-0-to-7.if-this-lt21-own.false))))
+    (no_kind _ (c.requires.0.row_fits c.args.i c.requires.1).operands.kind c.requires.2 (λ e. c.in-0-to-7.in_default-own.rest.0.0.0.0.0.0.0.0.1 (c.kind_at.ensures ∙ e)) (λ e. c.in-0-to-7.in_default-own.rest.0.0.0.0.0.0.0.1 (c.kind_at.ensures ∙ e)) (λ e. c.in-0-to-7.in_default-own.rest.0.0.0.0.0.0.1 (c.kind_at.ensures ∙ e))
+    (λ e. c.in-0-to-7.in_default-own.rest.0.0.0.0.0.1 (c.kind_at.ensures ∙ e)) (λ e. c.in-0-to-7.in_default-own.rest.0.0.0.0.1 (c.kind_at.ensures ∙ e)) (λ e. c.in-0-to-7.in_default-own.rest.0.0.0.1 (c.kind_at.ensures ∙ e))
+    (λ e. c.in-0-to-7.in_default-own.rest.0.0.1 (c.kind_at.ensures ∙ e)) (λ e. c.in-0-to-7.in_default-own.rest.0.1 (c.kind_at.ensures ∙ e)) (inr (omega (arith, c.kind_at.ensures, c.in-0-to-7.if-this-lt21-own.false))))

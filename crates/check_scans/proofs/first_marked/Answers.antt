@@ -1,4 +1,4 @@
-use Rattle.std.proofs.Common.{◌-◌, sym, ◌∙◌, arith}
+use Rattle.std.proofs.Common.{sym, ◌∙◌, arith}
 use Rattle.check_scans.proofs.Scanning.{scanned-first, scanned-more}
 use Rattle.check_scans.proofs.first_marked.Goals as goal
 

@@ -1,4 +1,4 @@
-use Rattle.std.proofs.Common.{◌≡◌, ℕ, ◌-◌, sym, ◌∙◌, ⊎_elim, arith}
+use Rattle.std.proofs.Common.{◌≡◌, ℕ, sym, ◌∙◌, ⊎_elim, arith}
 use Rattle.rules.proofs.Lists.{decide_eq}
 use Rattle.check_scans.proofs.has_path.Goals as goal
 

@@ -1,4 +1,4 @@
-use Prim.Native.Nat.{ℕ, ◌-◌}
+use Prim.Native.Nat.{ℕ}
 use Rattle.check_state.specs.Questions.{passes}
 use Rattle.rules.specs.Syntax.{var}
 use Rattle.rules.specs.State as Rules

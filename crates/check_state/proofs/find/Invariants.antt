@@ -1,7 +1,6 @@
 use Prim.Native.Nat.{ℕ, ◌-◌, ◌≤◌, ◌<◌}
 use Rattle.check_state.specs.Questions.{Told, entry_test}
 use Rattle.check_equality.specs.Keys.{term_of}
-use Rattle.rules.specs.State as Rules
 use mathlib.Core.Bool.{false}
 use mathlib.Core.Path.{◌≡◌}
 use Rattle.check_state.proofs.find.Given as goal

@@ -1,4 +1,3 @@
-use Prim.Native.Nat.{◌-◌}
 use Rattle.check_state.specs.Questions.{stands_for}
 use borrow.Author.Count.{below_more}
 use mathlib.Core.Bool.{false}

@@ -1,4 +1,3 @@
-use Prim.Native.Nat.{◌-◌}
 use Rattle.rules.specs.Limits.{most_permissions}
 use Rattle.check_state.proofs.Entries.{bytes-more}
 use mathlib.Core.Path.{◌≡◌, refl}

@@ -1,19 +1,13 @@
 use Prim.Native.Nat.{ℕ}
-use Rattle.std.proofs.lemmas.Grind.{common_steps}
-use Rattle.std.proofs.Common.{arith}
-use Rattle.std.proofs.Common.{rules}
 use Rattle.check_state.proofs.Entries.{own-kinds, resolve-path}
 use Rattle.check_state.specs.Questions.{resolved_as}
 use Rattle.check_state.specs.States.{permissions_of, state_of}
 use Rattle.check_equality.specs.Keys.{meaning}
 use Rattle.rules.specs.Base.{ok}
 use Rattle.rules.specs.Syntax.{same}
-use denote.Enum.Declared.{tag_of}
-use mathlib.Core.List.{List, [], ◌∷◌}
+use mathlib.Core.List.{List}
 use mathlib.Core.Path.{◌≡◌, refl, sym, ap, ◌∙◌}
-use types.Run.{OneOf, miss}
 use Rattle.check_equality.specs.declared.Term.{Term}
-use Rattle.check_equality.specs.contracts.Term.{the_type}
 use Rattle.rules.specs.State as Rules
 use Rattle.rules.specs.State.{Permission, Equality, equal_in}
 use Rattle.check_state.proofs.resolve.Goals as goal

@@ -1,4 +1,3 @@
-use Prim.Native.Nat.{◌-◌}
 use Rattle.check_successors.proofs.Marking.{marks-first, marks-more, marks-upto}
 use native.Mathlib.Omega.{arith}
 use Rattle.check_successors.proofs.marks_like.Goals as goal

@@ -1,4 +1,3 @@
-use Rattle.std.proofs.lemmas.Grind.{common_steps}
 use Rattle.std.proofs.Common.{rules}
 use Rattle.check_equality.proofs.Labels.{alike}
 use Rattle.check_equality.specs.Keys.{term_of}
@@ -10,7 +9,6 @@ use lib.ListN.{get_or}
 use mathlib.Core.Bool.{false}
 use mathlib.Core.Path.{sym, ap, ◌∙◌}
 use native.Mathlib.Omega.{arith}
-use borrow.Author.Tests.{not-true, not-false}
 use Rattle.check_successors.proofs.path_like.Goals as goal
 
 pub returns-then-not-left : goal.returns-then-not-left

@@ -1,7 +1,6 @@
-use Prim.Native.Nat.{◌-◌}
+use Rattle.rules.specs.Grammar.{statement_number}
 use mathlib.Core.Path.{refl, sym, ◌∙◌}
 use native.Mathlib.Omega.{arith}
-use borrow.Author.Tests.{not-true, not-false}
 use Rattle.checker.proofs.Blocks.{going, part-ends, step-passes, if-deep, if-inner, if-stops, turn-stops, turn-inner, join-passes, loop-deep, loop-inner, loop-stops, loop-passes, begin, stands, ends, passed-stops, passed-returns, passed-goes}
 use Rattle.checker.proofs.+block_body_branch_row.Goals as goal
 
@@ -15,7 +14,7 @@ block-is_closing_at-requires t c =
 
 pub block-row-r-requires : goal.block-row-r-requires
 block-row-r-requires t c =
-    let closing = sym c.is_closing_at.ensures ∙ not-true _ c.loop-key-test.true in
+    let closing = sym c.is_closing_at.ensures ∙ c.loop-key-test.true in
     (omega arith, (stands c.loop-key.invariant c.requires.0, closing, c.loop-key.invariant.wf))
 
 pub block-returns-in_default : goal.block-returns-in_default
@@ -40,7 +39,7 @@ block-stopped-requires t c =
 
 pub block-returns : goal.block-returns
 block-returns t c =
-    ends c.loop-key.invariant (sym c.is_closing_at.ensures ∙ not-false _ c.loop-key-test.false) c.stopped.ensures
+    ends c.loop-key.invariant (sym c.is_closing_at.ensures ∙ c.loop-key-test.false) c.stopped.ensures
 
 pub branch-if_at-k-requires : goal.branch-if_at-k-requires
 branch-if_at-k-requires t c =

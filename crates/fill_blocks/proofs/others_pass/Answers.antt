@@ -1,7 +1,5 @@
-use Prim.Native.Nat.{◌-◌}
 use mathlib.Core.Path.{sym, ◌∙◌}
 use native.Mathlib.Omega.{arith}
-use borrow.Author.Tests.{not-true, not-false}
 use Rattle.fill_blocks.proofs.Calling.{methods-are}
 use Rattle.fill_blocks.proofs.Passing.{all-to-come, none-to-come, one_passes, one-fails}
 use Rattle.fill_blocks.proofs.others_pass.Goals as goal

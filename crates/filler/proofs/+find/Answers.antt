@@ -1,7 +1,6 @@
 use mathlib.Core.Path.{sym, ◌∙◌}
 use native.Mathlib.Omega.{arith}
 use Rattle.filler.proofs.Finding.{complete, no-place-left, seeks-with, taken, seeks-without, passed_over}
-use Prim.Native.Nat.{◌-◌}
 use Rattle.filler.proofs.+find.Goals as goal
 
 pub accepted_with-requires : goal.accepted_with-requires

@@ -1,8 +1,6 @@
-use Prim.Native.Nat.{◌-◌}
 use mathlib.Core.Path.{refl, sym, ap, ◌∙◌}
 use native.Mathlib.Omega.{arith}
 use lib.ListN.{length}
-use borrow.Author.Tests.{not-true, not-false}
 use Rattle.filler.proofs.Sizes.{seeks, begins, next-size, set_found_lem, none_found, block_refused}
 use Rattle.filler.proofs.fill.Goals as goal
 

@@ -1,7 +1,6 @@
 use borrow.Author.Rules.{rules}
 use native.Mathlib.Omega.{arith}
 use mathlib.Core.Path.{◌∙◌}
-use Prim.Native.Nat.{◌-◌}
 use Rattle.machine.proofs.Running.{going, ready, at-row, goes_on, goes-less, does-answer, ends-stopped, ends-finished, ends-taken, from-tables}
 use Rattle.machine.proofs.run.Goals as goal
 

@@ -65,11 +65,11 @@ shut_step-requires c =
 pub compute_step-requires : goal.compute_step-requires
 compute_step-requires c =
     let t =
-    Stepping.is-computing _ (fits c.requires.0).kind (λ z. c.in_default-1.rest.0.0.0.0.0.0.0.0.0.0.0.1 (c.kind_at.ensures ∙ z)) (λ z. c.in_default-1.rest.0.0.0.0.0.0.0.0.0.0.1 (c.kind_at.ensures ∙ z))
-    (λ z. c.in_default-1.rest.0.0.0.0.0.0.0.0.0.1 (c.kind_at.ensures ∙ z)) (λ z. c.in_default-1.rest.0.0.0.0.0.0.0.0.1 (c.kind_at.ensures ∙ z)) (λ z. c.in_default-1.rest.0.0.0.0.0.0.0.1 (inl (c.kind_at.ensures ∙ z)))
-    (λ o. c.in_default-1.rest.0.0.0.0.0.0.1 (⊎_elim (λ z. inl (c.kind_at.ensures ∙ z)) (λ z. inr (c.kind_at.ensures ∙ z)) o)) (λ z. c.in_default-1.rest.0.0.0.0.0.1 (c.kind_at.ensures ∙ z))
-    (λ z. c.in_default-1.rest.0.0.0.0.1 (c.kind_at.ensures ∙ z)) (λ z. c.in_default-1.rest.0.0.0.1 (c.kind_at.ensures ∙ z))
-    (λ o. c.in_default-1.rest.0.0.1 (⊎_elim (λ z. inl (c.kind_at.ensures ∙ z)) (λ z. inr (c.kind_at.ensures ∙ z)) o)) (λ z. c.in_default-1.rest.0.1 (c.kind_at.ensures ∙ z)) (λ z. c.in_default-1.rest.1 (c.kind_at.ensures ∙ z)) (λ z. c.in_default-1.rest.0.0.0.0.0.0.0.1 (inr (c.kind_at.ensures ∙ z))) in
+    Stepping.is-computing _ (fits c.requires.0).kind (λ z. c.in-19.in_default-own.rest.0.0.0.0.0.0.0.0.0.0.0.1 (c.kind_at.ensures ∙ z)) (λ z. c.in-19.in_default-own.rest.0.0.0.0.0.0.0.0.0.0.1 (c.kind_at.ensures ∙ z))
+    (λ z. c.in-19.in_default-own.rest.0.0.0.0.0.0.0.0.0.1 (c.kind_at.ensures ∙ z)) (λ z. c.in-19.in_default-own.rest.0.0.0.0.0.0.0.0.1 (c.kind_at.ensures ∙ z)) (λ z. c.in-19.in_default-own.rest.0.0.0.0.0.0.0.1 (inl (c.kind_at.ensures ∙ z)))
+    (λ o. c.in-19.in_default-own.rest.0.0.0.0.0.0.1 (⊎_elim (λ z. inl (c.kind_at.ensures ∙ z)) (λ z. inr (c.kind_at.ensures ∙ z)) o)) (λ z. c.in-19.in_default-own.rest.0.0.0.0.0.1 (c.kind_at.ensures ∙ z))
+    (λ z. c.in-19.in_default-own.rest.0.0.0.0.1 (c.kind_at.ensures ∙ z)) (λ z. c.in-19.in_default-own.rest.0.0.0.1 (c.kind_at.ensures ∙ z))
+    (λ o. c.in-19.in_default-own.rest.0.0.1 (⊎_elim (λ z. inl (c.kind_at.ensures ∙ z)) (λ z. inr (c.kind_at.ensures ∙ z)) o)) (λ z. c.in-19.in_default-own.rest.0.1 (c.kind_at.ensures ∙ z)) (λ z. c.in-19.in_default-own.rest.1 (c.kind_at.ensures ∙ z)) (λ z. c.in-19.in_default-own.rest.0.0.0.0.0.0.0.1 (inr (c.kind_at.ensures ∙ z))) in
     (c.requires.0, t)
 
 pub returns-in-8 : goal.returns-in-8
@@ -135,11 +135,11 @@ returns-in-24 c =
 pub returns-in-19 : goal.returns-in-19
 returns-in-19 c =
     let t =
-    Stepping.is-computing _ (fits c.requires.0).kind (λ z. c.in_default-1.rest.0.0.0.0.0.0.0.0.0.0.0.1 (c.kind_at.ensures ∙ z)) (λ z. c.in_default-1.rest.0.0.0.0.0.0.0.0.0.0.1 (c.kind_at.ensures ∙ z))
-    (λ z. c.in_default-1.rest.0.0.0.0.0.0.0.0.0.1 (c.kind_at.ensures ∙ z)) (λ z. c.in_default-1.rest.0.0.0.0.0.0.0.0.1 (c.kind_at.ensures ∙ z)) (λ z. c.in_default-1.rest.0.0.0.0.0.0.0.1 (inl (c.kind_at.ensures ∙ z)))
-    (λ o. c.in_default-1.rest.0.0.0.0.0.0.1 (⊎_elim (λ z. inl (c.kind_at.ensures ∙ z)) (λ z. inr (c.kind_at.ensures ∙ z)) o)) (λ z. c.in_default-1.rest.0.0.0.0.0.1 (c.kind_at.ensures ∙ z))
-    (λ z. c.in_default-1.rest.0.0.0.0.1 (c.kind_at.ensures ∙ z)) (λ z. c.in_default-1.rest.0.0.0.1 (c.kind_at.ensures ∙ z))
-    (λ o. c.in_default-1.rest.0.0.1 (⊎_elim (λ z. inl (c.kind_at.ensures ∙ z)) (λ z. inr (c.kind_at.ensures ∙ z)) o)) (λ z. c.in_default-1.rest.0.1 (c.kind_at.ensures ∙ z)) (λ z. c.in_default-1.rest.1 (c.kind_at.ensures ∙ z)) (λ z. c.in_default-1.rest.0.0.0.0.0.0.0.1 (inr (c.kind_at.ensures ∙ z))) in
+    Stepping.is-computing _ (fits c.requires.0).kind (λ z. c.in-19.in_default-own.rest.0.0.0.0.0.0.0.0.0.0.0.1 (c.kind_at.ensures ∙ z)) (λ z. c.in-19.in_default-own.rest.0.0.0.0.0.0.0.0.0.0.1 (c.kind_at.ensures ∙ z))
+    (λ z. c.in-19.in_default-own.rest.0.0.0.0.0.0.0.0.0.1 (c.kind_at.ensures ∙ z)) (λ z. c.in-19.in_default-own.rest.0.0.0.0.0.0.0.0.1 (c.kind_at.ensures ∙ z)) (λ z. c.in-19.in_default-own.rest.0.0.0.0.0.0.0.1 (inl (c.kind_at.ensures ∙ z)))
+    (λ o. c.in-19.in_default-own.rest.0.0.0.0.0.0.1 (⊎_elim (λ z. inl (c.kind_at.ensures ∙ z)) (λ z. inr (c.kind_at.ensures ∙ z)) o)) (λ z. c.in-19.in_default-own.rest.0.0.0.0.0.1 (c.kind_at.ensures ∙ z))
+    (λ z. c.in-19.in_default-own.rest.0.0.0.0.1 (c.kind_at.ensures ∙ z)) (λ z. c.in-19.in_default-own.rest.0.0.0.1 (c.kind_at.ensures ∙ z))
+    (λ o. c.in-19.in_default-own.rest.0.0.1 (⊎_elim (λ z. inl (c.kind_at.ensures ∙ z)) (λ z. inr (c.kind_at.ensures ∙ z)) o)) (λ z. c.in-19.in_default-own.rest.0.1 (c.kind_at.ensures ∙ z)) (λ z. c.in-19.in_default-own.rest.1 (c.kind_at.ensures ∙ z)) (λ z. c.in-19.in_default-own.rest.0.0.0.0.0.0.0.1 (inr (c.kind_at.ensures ∙ z))) in
     Stepping.does-as (Stepping.compute-is _ t) c.compute_step.ensures
 
 pub returns-in-0-to-7 : goal.returns-in-0-to-7
@@ -150,4 +150,4 @@ pub returns-in-0-to-7-2 : goal.returns-in-0-to-7-2
 returns-in-0-to-7-2 c =
     absurd
     (Stepping.past_all _ (fits c.requires.0).kind (omega (arith, c.kind_at.ensures, c.in-0-to-7.if-this-lt21-own.false))
-    (λ z. c.in_default-1.rest.0.0.0.1 (c.kind_at.ensures ∙ z)) (λ o. c.in_default-1.rest.0.0.1 (⊎_elim (λ z. inl (c.kind_at.ensures ∙ z)) (λ z. inr (c.kind_at.ensures ∙ z)) o)) (λ z. c.in_default-1.rest.0.1 (c.kind_at.ensures ∙ z)) (λ z. c.in_default-1.rest.1 (c.kind_at.ensures ∙ z)))
+    (λ z. c.in-0-to-7.in_default-own.rest.0.0.0.1 (c.kind_at.ensures ∙ z)) (λ o. c.in-0-to-7.in_default-own.rest.0.0.1 (⊎_elim (λ z. inl (c.kind_at.ensures ∙ z)) (λ z. inr (c.kind_at.ensures ∙ z)) o)) (λ z. c.in-0-to-7.in_default-own.rest.0.1 (c.kind_at.ensures ∙ z)) (λ z. c.in-0-to-7.in_default-own.rest.1 (c.kind_at.ensures ∙ z)))

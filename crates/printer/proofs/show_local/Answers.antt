@@ -1,7 +1,6 @@
 use mathlib.Core.Path.{◌≡◌, refl, sym, ap, ap₂, ◌∙◌}
 use Rattle.printer.specs.Answers.{values_in, variable_line}
 use Rattle.printer.proofs.Writes.{writes_as}
-use mathlib.Core.List.{[]}
 use Prim.Native.Nat.{ℕ, ◌+◌}
 use lib.ListN.{length, get_or, drop}
 use Rattle.rules.specs.Base.{Name}

@@ -1,4 +1,3 @@
-use Prim.Native.Nat.{◌-◌}
 use native.Mathlib.Omega.{arith}
 use Rattle.read_declarations.proofs.Walks.{walking-clean, walking-formed}
 use Rattle.printer.proofs.Variables.{showing-first, showing-done, showing-room, showing-on}

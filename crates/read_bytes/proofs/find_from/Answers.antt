@@ -1,4 +1,3 @@
-use Prim.Native.Nat.{◌-◌}
 use Rattle.read_bytes.proofs.Search.{up_to-here, up_to-on, up_to-end}
 use Rattle.read_bytes.specs.Sets.{in_set}
 use mathlib.Core.Path.{refl, sym, ◌∙◌}

@@ -1,4 +1,3 @@
-use Prim.Native.Nat.{◌-◌}
 use Rattle.read_bytes.proofs.Bytewise.{skipped, trailing_zeros, no-marks}
 use lib.Count.{trailing_le}
 use mathlib.Core.Path.{refl, ◌∙◌}

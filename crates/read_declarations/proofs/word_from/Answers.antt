@@ -1,5 +1,4 @@
 use mathlib.Core.Path.{sym, ap, ◌∙◌}
-use mathlib.Core.List.{[]}
 use lib.ListN.{get_or, drop}
 use Rattle.rules.specs.Grammar.{kind_of}
 use Rattle.read_words.specs.Words.{kind_or0}

@@ -1,6 +1,5 @@
 use mathlib.Core.Path.{refl, ap, ◌∙◌}
 use native.Mathlib.Omega.{arith}
-use borrow.Author.Tests.{not-true, not-false}
 use Rattle.read_atoms.specs.Atoms.{atom_row, begun_by}
 use Rattle.read_fields.proofs.Cuts.{byte-in}
 use Rattle.read_fields.proofs.Heads.{bytes-short, head-none, head-some}

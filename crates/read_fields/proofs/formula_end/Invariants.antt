@@ -1,5 +1,4 @@
 use mathlib.Core.Path.{◌≡◌}
-use Prim.Native.Nat.{◌-◌}
 use lib.ListN.{drop}
 use Rattle.rules.specs.Text.{is_formula}
 use Rattle.read_fields.specs.Cuts.{more}

@@ -1,6 +1,4 @@
 use Rattle.read_fields.specs.Spans.{condition_first}
-use Rattle.std.proofs.lemmas.Grind.{common_steps}
-use Rattle.std.proofs.Common.{arith}
 use Rattle.std.proofs.Common.{rules}
 use borrow.Author.Tests.{ne_eqb}
 use Rattle.read_grammar.specs.Rows.{fits_tail}

@@ -1,5 +1,4 @@
 use mathlib.Core.Path.{sym, ◌∙◌}
-use borrow.Author.Tests.{not-true, not-false}
 use Rattle.read_scopes.specs.Meanings.{scope_in}
 use Rattle.read_lookups.proofs.may_add_method.Goals as goal
 

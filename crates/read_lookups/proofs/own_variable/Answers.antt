@@ -1,6 +1,5 @@
 use Rattle.read_lookups.proofs.LookUps.{own-found, own-none, own-result, own-other}
 use Rattle.rules.specs.Base.{bytes}
-use borrow.Author.Tests.{not-true, not-false}
 use mathlib.Core.Path.{sym, ◌∙◌}
 use native.Mathlib.Omega.{arith}
 use Rattle.read_lookups.proofs.own_variable.Goals as goal

@@ -1,5 +1,5 @@
 use Prim.Native.Nat.{◌-◌, ◌≤◌}
-use Rattle.read_names.proofs.Searches.{At, on}
+use Rattle.read_names.proofs.Searches.{At}
 use Rattle.read_names.specs.Rows.{entry_at, is_entry}
 use Rattle.read_names.proofs.find_each.Given as goal
 

@@ -1,4 +1,3 @@
-use Prim.Native.Nat.{◌-◌}
 use Rattle.read_names.proofs.Keys.{at_first, at_next}
 use Rattle.read_names.proofs.Searches.{here, over}
 use mathlib.Core.Path.{sym, ◌∙◌}

@@ -1,7 +1,6 @@
 use Rattle.read_names.proofs.Keys.{same_name}
 use Rattle.read_names.specs.Rows.{name_in, entry_at, is_entry}
 use Rattle.rules.specs.Base.{eq_name}
-use borrow.Author.Tests.{not-true, not-false}
 use mathlib.Core.Path.{sym, ap, ◌∙◌}
 use Rattle.read_names.proofs.is_keyed_row.Goals as goal
 

@@ -1,5 +1,4 @@
 use Rattle.read_names.specs.Rows.{is_entry, entry_at}
-use borrow.Author.Tests.{not-true, not-false}
 use mathlib.Core.Path.{sym, ◌∙◌}
 use Rattle.read_names.proofs.is_row.Goals as goal
 

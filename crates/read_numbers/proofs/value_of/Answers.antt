@@ -1,4 +1,3 @@
-use Prim.Native.Nat.{◌-◌}
 use Rattle.read_numbers.proofs.Numbers.{decimal-on, decimal-end, decimal-grows, digit-is}
 use Rattle.read_bytes.proofs.Search.{all-at}
 use Rattle.rules.specs.Text.{digit}

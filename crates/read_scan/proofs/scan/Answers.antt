@@ -1,6 +1,5 @@
 use native.Mathlib.Omega.{arith}
 use mathlib.Core.Path.{refl, sym, ap, ◌∙◌}
-use Prim.Native.Nat.{◌-◌}
 use Rattle.rules.specs.Places.{stage_number}
 use Rattle.read_scan.specs.Scans.{line_answer}
 use Rattle.read_fields.proofs.Cuts.{byte-in, clean_line}

@@ -1,4 +1,4 @@
-use borrow.Author.Tests.{lt-leb, not-true, not-false}
+use borrow.Author.Tests.{lt-leb}
 use mathlib.Core.Path.{sym, ap, ◌∙◌}
 use Rattle.rules.specs.Text.{letter, is_name}
 use Rattle.read_bytes.proofs.Fields.{field-fails}

@@ -1,4 +1,3 @@
-use Prim.Native.Nat.{◌-◌}
 use Rattle.read_bytes.proofs.Bytewise.{skipped, stopped, no-marks}
 use Rattle.read_bytes.specs.declared.Set.TheVariants.{NotLetterOrDigit}
 use lib.Count.{trailing_le}

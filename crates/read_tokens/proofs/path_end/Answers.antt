@@ -1,7 +1,6 @@
 use Rattle.read_bytes.proofs.Fields.{goes-beyond, field-passes, field-fails}
 use Rattle.read_tokens.proofs.Exprs.{ended_at, no-begin-at, whole-at, sign_at, path-at, path-ends}
 use Rattle.rules.specs.Text.{is_expr}
-use borrow.Author.Tests.{not-true, not-false}
 use mathlib.Core.Path.{sym, ◌∙◌}
 use native.Mathlib.Omega.{arith}
 use Rattle.read_tokens.proofs.path_end.Goals as goal

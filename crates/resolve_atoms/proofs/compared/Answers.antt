@@ -1,5 +1,4 @@
 use mathlib.Core.Path.{sym, ◌∙◌}
-use borrow.Author.Tests.{not-true, not-false}
 use Rattle.resolve_atoms.proofs.Sides.{compared-row, side-bad, apart-bad}
 use Rattle.resolve_atoms.proofs.compared.Goals as goal
 

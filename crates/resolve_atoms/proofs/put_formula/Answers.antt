@@ -1,5 +1,4 @@
 use mathlib.Core.Path.{sym, ◌∙◌}
-use Prim.Native.Nat.{◌-◌}
 use native.Mathlib.Omega.{arith}
 use Rattle.resolve_atoms.proofs.Formulas.{writing-first, still-ready, writing-done, writing-bad, writing-follows, writing-on, writing-room}
 use Rattle.resolve_atoms.proofs.put_formula.Goals as goal

@@ -1,5 +1,4 @@
 use mathlib.Core.Path.{ap, sym, ◌∙◌}
-use mathlib.Core.List.{[]}
 use Rattle.rules.specs.Reading.{framed}
 use Rattle.resolve_framing.proofs.Framing.{as-loop, as-formula}
 use Rattle.resolve_framing.proofs.framed_line.Goals as goal

@@ -1,5 +1,4 @@
 use mathlib.Core.Path.{sym, ◌∙◌}
-use borrow.Author.Tests.{not-true, not-false}
 use Rattle.resolve_framing.proofs.Framing.{last-not, last_on}
 use Rattle.resolve_framing.proofs.framed_loop.Goals as goal
 

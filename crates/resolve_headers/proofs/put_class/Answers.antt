@@ -1,7 +1,6 @@
 use mathlib.Core.Path.{refl, ap, ◌∙◌}
 use native.Mathlib.Omega.{arith}
 use lib.ListN.{drop}
-use borrow.Author.Tests.{not-true, not-false}
 use Rattle.rules.specs.Grammar.{Class, kind_number, is_statement, is_kind}
 use Rattle.read_fields.specs.Cuts.{more}
 use Rattle.read_names.specs.Rows.{classes_first}

@@ -1,9 +1,7 @@
 use mathlib.Core.Path.{◌≡◌, refl, ap, ◌∙◌}
-use mathlib.Core.List.{[]}
 use Prim.Native.Nat.{suc, ◌-◌}
 use native.Mathlib.Omega.{arith}
 use lib.ListN.{get_or, drop}
-use borrow.Author.Tests.{not-true, not-false}
 use Rattle.rules.specs.Base.{is}
 use Rattle.rules.specs.Grammar.{Field, kind_number, is_statement, is_kind}
 use Rattle.rules.specs.Names.{field_number}

@@ -2,7 +2,6 @@ use mathlib.Core.Path.{◌≡◌, refl, ap, ◌∙◌}
 use Prim.Native.Nat.{suc, ◌-◌, ◌<◌}
 use native.Mathlib.Omega.{arith}
 use lib.ListN.{length, drop}
-use borrow.Author.Tests.{not-true, not-false}
 use Rattle.rules.specs.Limits.{most_methods}
 use Rattle.rules.specs.Text.{is_name}
 use Rattle.rules.specs.Grammar.{Method, kind_number, is_statement, is_kind}

@@ -1,6 +1,5 @@
 use mathlib.Core.Path.{refl, ap, ◌∙◌}
 use lib.ListN.{drop}
-use borrow.Author.Tests.{not-true, not-false}
 use Rattle.rules.specs.Text.{is_name}
 use Rattle.rules.specs.Grammar.{Var, kind_number, is_statement, is_kind}
 use Rattle.read_fields.specs.Cuts.{more}

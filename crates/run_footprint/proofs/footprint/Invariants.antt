@@ -1,6 +1,5 @@
 use lib.ListN.{length, take}
 use mathlib.Core.Path.{◌≡◌}
-use mathlib.Core.List.{[]}
 use Rattle.run_footprint.specs.Footprints.{take_in, Sieve}
 use Rattle.tables.specs.Decode.{atoms_from}
 use Prim.Native.Nat.{◌≤◌, ◌-◌, ◌+◌}

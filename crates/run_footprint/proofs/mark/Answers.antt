@@ -1,5 +1,4 @@
 use mathlib.Core.Path.{◌≡◌, refl, sym, ◌∙◌, subst}
-use Prim.Native.Nat.{◌-◌}
 use lib.ListN.{length, get_or}
 use Rattle.run_footprint.specs.Footprints.{SharesFit}
 use Rattle.run_footprint.proofs.Shares.{mark-next, mark-end, spread-among}

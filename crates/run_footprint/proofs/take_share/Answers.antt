@@ -1,5 +1,4 @@
 use mathlib.Core.Path.{sym, ◌∙◌}
-use mathlib.Core.List.{[]}
 use Rattle.run_footprint.specs.Footprints.{took_is, count_of}
 use Rattle.run_heap.proofs.Reading.{spot-at, spot-lacking, spot-small}
 use Rattle.run_footprint.proofs.Taking.{own-fits, own_at, own_held, own-lacking}

@@ -1,5 +1,4 @@
 use mathlib.Core.Path.{◌≡◌}
-use Prim.Native.Nat.{◌-◌}
 use lib.ListN.{length}
 use Rattle.run_footprint.proofs.Shares.{sum-on, sum_past}
 use native.Mathlib.Omega.{arith}

@@ -1,6 +1,5 @@
 use mathlib.Core.Path.{sym, ◌∙◌}
 use native.Mathlib.Omega.{arith}
-use borrow.Author.Tests.{not-true, not-false}
 use Rattle.small.specs.Listing.{places_in}
 use Rattle.small.proofs.Lines.{listed, left_out, line-room}
 use Rattle.small.proofs.put_accepted.Goals as goal

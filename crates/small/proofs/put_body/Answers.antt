@@ -1,4 +1,3 @@
-use Prim.Native.Nat.{◌-◌}
 use native.Mathlib.Omega.{arith}
 use Rattle.printer.proofs.Writes.{writes-none, writes-on, writes_as}
 use Rattle.small_list.specs.Small.{body}

@@ -1,11 +1,11 @@
 use mathlib.Core.Path.{◌≡◌, refl, sym, ap, ◌∙◌}
-use mathlib.Core.Logic.{⊎_elim}
-use Prim.Native.Nat.{pred, ◌-◌}
+use Prim.Native.Nat.{pred}
 use native.Mathlib.Omega.{arith}
 use native.Mathlib.Numerals.{add-one}
 use Rattle.star_reader.specs.StarRead.{headers_in}
 use Rattle.star_reader.proofs.Headers.{one-header, no_header}
 use Rattle.star_reader.proofs.last_method.Goals as goal
+use Rattle.star_reader.proofs.last_method.Goals.{then-w-eq-METHOD, else-w-eq-METHOD}
 
 pub loop-i-init : goal.loop-i-init
 unfolding headers_in
@@ -27,20 +27,20 @@ loop-i-smaller c = omega (arith, c.loop-i-test.true)
 pub loop-i-preserved : goal.loop-i-preserved
 loop-i-preserved c =
     let e = ap (λ r. r.kind) c.line_word-w.ensures in
-    ⊎_elim
-    (λ (g, l, n). (
-      omega (arith, c.loop-i-test.true),
-      n ∙ one-header c.args.work.now c.loop-i.i _ c.loop-i.invariant.1 (sym e ∙ g.taken),
-      l ∙ (sym (ap pred (add-one _)) ∙ ap pred (sym n)),
-      omega (arith, n, c.loop-i.invariant.3),
-    ))
-    (λ (g, l, n). (
-      omega (arith, c.loop-i-test.true),
-      n ∙ no_header c.args.work.now c.loop-i.i _ c.loop-i.invariant.1 (λ z. g.left (e ∙ z)),
-      l ∙ (c.loop-i.invariant.2 ∙ ap pred (sym n)),
-      omega (arith, n, c.loop-i.invariant.3),
-    ))
-    c.if-w-eq-METHOD.branch
+    elim c.if-w-eq-METHOD.branch [
+        then-w-eq-METHOD w ↦ (
+          omega (arith, c.loop-i-test.true),
+          w.next-is ∙ one-header c.args.work.now c.loop-i.i _ c.loop-i.invariant.1 (sym e ∙ w.if-w-eq-METHOD.true),
+          w.last-is ∙ (sym (ap pred (add-one _)) ∙ ap pred (sym w.next-is)),
+          omega (arith, w.next-is, c.loop-i.invariant.3),
+        )
+      | else-w-eq-METHOD w ↦ (
+          omega (arith, c.loop-i-test.true),
+          w.next-is ∙ no_header c.args.work.now c.loop-i.i _ c.loop-i.invariant.1 (λ z. w.if-w-eq-METHOD.false (e ∙ z)),
+          w.last-is ∙ (c.loop-i.invariant.2 ∙ ap pred (sym w.next-is)),
+          omega (arith, w.next-is, c.loop-i.invariant.3),
+        )
+      ]
 
 pub returns : goal.returns
 returns c =

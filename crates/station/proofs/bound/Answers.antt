@@ -1,5 +1,4 @@
 use mathlib.Core.Path.{sym, ap, ◌∙◌}
-use borrow.Author.Tests.{not-true, not-false}
 use Rattle.station.proofs.Bounded.{numbers_of, found-bound, bound-fits}
 use Rattle.station.proofs.Calls.{fit-lengths, wrong-bound, right-bound}
 use Rattle.station.proofs.bound.Goals as goal

@@ -1,5 +1,4 @@
 use mathlib.Core.Path.{sym, ◌∙◌}
-use borrow.Author.Tests.{not-true, not-false}
 use Rattle.station.proofs.Calls.{fit-lengths, wrong-fill, right-fill}
 use Rattle.station.proofs.Filling.{fill-fits}
 use Rattle.station.proofs.fill.Goals as goal

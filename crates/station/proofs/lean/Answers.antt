@@ -1,6 +1,5 @@
 use mathlib.Core.Path.{sym, ap, ◌∙◌}
 use borrow.Author.Rules.{rules}
-use borrow.Author.Tests.{not-true, not-false}
 use Rattle.station.specs.Station.{run_numbers}
 use Rattle.station.proofs.Texts.{tables-accepted, found-lean, fits-as, lean-fits}
 use Rattle.station.proofs.Calls.{fit-lengths, wrong-areas, right-areas}

@@ -1,5 +1,5 @@
 use mathlib.Core.Path.{refl, sym, ap, ◌∙◌}
-use Prim.Native.Nat.{◌-◌, ◌*◌}
+use Prim.Native.Nat.{◌*◌}
 use native.Mathlib.Omega.{arith}
 use Rattle.machine.specs.Runs.{main_values}
 use Rattle.station.proofs.Words.{word_first, word_more, words-all, values_length, value_is}

@@ -1,5 +1,4 @@
 use mathlib.Core.Path.{sym, ◌∙◌}
-use Prim.Native.Nat.{◌-◌}
 use native.Mathlib.Omega.{arith}
 use Rattle.unstarring.proofs.Found.{copying-first, copying-on, copying-done, part-long}
 use Rattle.unstarring.proofs.unstar.Goals as goal

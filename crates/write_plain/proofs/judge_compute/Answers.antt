@@ -1,5 +1,4 @@
 use mathlib.Core.Path.{sym, ap, ◌∙◌}
-use borrow.Author.Tests.{not-true, not-false}
 use Rattle.rules.specs.Base.{is}
 use Rattle.read_names.specs.Rows.{name_in}
 use Rattle.read_types.specs.declared.Fault.{Fault}

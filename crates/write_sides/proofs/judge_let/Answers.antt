@@ -1,5 +1,5 @@
 use mathlib.Core.Path.{sym, ap, ◌∙◌}
-use borrow.Author.Tests.{not-true, not-false, le-ltb, lt-ltb}
+use borrow.Author.Tests.{le-ltb, lt-ltb}
 use Rattle.read_types.specs.declared.Fault.{Fault}
 use Rattle.read_types.specs.declared.Verdict.{Verdict}
 use Rattle.read_types.specs.Verdicts.{test, and_then}

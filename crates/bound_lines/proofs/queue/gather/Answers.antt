@@ -1,5 +1,4 @@
 use mathlib.Core.Path.{refl, sym, ◌∙◌}
-use Prim.Native.Nat.{◌-◌}
 use native.Mathlib.Omega.{arith}
 use Rattle.bound_lines.proofs.Seeks.{gather-start, gather-plain, gather-loop, called-small, gather-call, gather-end}
 use Rattle.bound_lines.proofs.queue.gather.Goals as goal

@@ -1,4 +1,3 @@
-use Prim.Native.Nat.{◌-◌}
 use native.Mathlib.Omega.{arith}
 use Rattle.bound_lines.proofs.Seeks.{small_count, search-begun, search-next, search-done}
 use Rattle.bound_lines.proofs.queue.reach.Goals as goal

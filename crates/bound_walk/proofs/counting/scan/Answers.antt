@@ -1,5 +1,4 @@
 use mathlib.Core.Path.{refl}
-use Prim.Native.Nat.{◌-◌}
 use native.Mathlib.Omega.{arith}
 use Rattle.bound_walk.proofs.Counted.{scan-start, may-look, scan-on, scan-waits, scan-loops, scan-ends}
 use Rattle.bound_walk.proofs.counting.scan.Goals as goal

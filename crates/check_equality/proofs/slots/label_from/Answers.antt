@@ -1,4 +1,3 @@
-use Prim.Native.Nat.{◌-◌}
 use Rattle.check_equality.proofs.Labels.{past_all}
 use borrow.Author.Count.{below_more}
 use mathlib.Core.Logic.{inl, inr}

@@ -1,4 +1,4 @@
-use Prim.Native.Nat.{ℕ, ◌+◌, ◌-◌, ◌<◌}
+use Prim.Native.Nat.{ℕ, ◌+◌, ◌<◌}
 use Rattle.check_equality.specs.Links.{picked}
 use Rattle.rules.proofs.Lists.{decide_eq}
 use lib.ListN.{length, get_or, set, length-set}

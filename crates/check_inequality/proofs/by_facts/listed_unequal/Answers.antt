@@ -1,7 +1,5 @@
-use Prim.Native.Nat.{◌-◌}
 use Rattle.check_inequality.proofs.Searches.{any-on, equal-block}
 use Rattle.check_equality.proofs.Listing.{any_none}
-use mathlib.Core.Logic.{⊎_elim}
 use mathlib.Core.Path.{sym, ◌∙◌}
 use native.Mathlib.Omega.{arith}
 use Rattle.check_inequality.proofs.by_facts.listed_unequal.Goals as goal

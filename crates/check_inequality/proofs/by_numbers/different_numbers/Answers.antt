@@ -1,4 +1,3 @@
-use Prim.Native.Nat.{◌-◌}
 use Rattle.check_inequality.specs.Ways.{two_numbers}
 use Rattle.check_equality.proofs.Listing.{any_none, any-past, any_found}
 use mathlib.Core.Bool.{false}

@@ -1,4 +1,3 @@
-use Prim.Native.Nat.{◌-◌}
 use Rattle.check_inequality.specs.Ways.{other_number}
 use Rattle.check_equality.proofs.Listing.{any_none, any-past, any_found}
 use mathlib.Core.Bool.{false}

@@ -1,5 +1,4 @@
 use Rattle.check_labels.proofs.FreshLabels.{own-more}
-use Prim.Native.Nat.{◌-◌}
 use lib.ListN.{length-set}
 use lib.Seq.{get_or-set_other}
 use mathlib.Core.Path.{refl, ◌∙◌}

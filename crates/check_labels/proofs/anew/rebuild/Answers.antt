@@ -1,4 +1,4 @@
-use Prim.Native.Nat.{ℕ, ◌+◌, ◌*◌, ◌-◌}
+use Prim.Native.Nat.{ℕ, ◌+◌, ◌*◌}
 use Rattle.check_labels.proofs.Rebuilding.{facts-none, facts-next, rebuilt-fresh}
 use Rattle.check_labels.proofs.FreshLabels.{fresh-linked}
 use Rattle.check_state.specs.States.{facts, facts_in}

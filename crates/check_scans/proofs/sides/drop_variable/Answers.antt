@@ -1,4 +1,4 @@
-use Rattle.std.proofs.Common.{◌-◌, arith}
+use Rattle.std.proofs.Common.{arith}
 use Rattle.check_scans.proofs.Dropping.{dropped-more, dropped-all}
 use Rattle.check_scans.proofs.sides.drop_variable.Goals as goal
 

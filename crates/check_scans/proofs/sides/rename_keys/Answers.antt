@@ -1,4 +1,4 @@
-use Rattle.std.proofs.Common.{◌-◌, refl, arith}
+use Rattle.std.proofs.Common.{refl, arith}
 use Rattle.check_scans.proofs.Dropping.{mapped-more, mapped-all}
 use Rattle.check_scans.proofs.sides.rename_keys.Goals as goal
 

@@ -1,4 +1,4 @@
-use Rattle.std.proofs.Common.{◌-◌, arith}
+use Rattle.std.proofs.Common.{arith}
 use Rattle.check_scans.proofs.Dropping.{mapped-first, mapped-more, mapped-all}
 use Rattle.check_scans.proofs.sides.swap_key.Goals as goal
 

@@ -3,7 +3,6 @@ use Rattle.check_state.specs.States.{state_of, Wf}
 use Rattle.rules.specs.Rules.{add_fields}
 use Rattle.tables.specs.Decode.{fields_from}
 use mathlib.Core.Path.{◌≡◌}
-use Rattle.rules.specs.State as Rules
 use Rattle.check_statements.proofs.objects.add_fields.Given as goal
 
 abbrev pub invariant-loop-j : goal.invariant-loop-j

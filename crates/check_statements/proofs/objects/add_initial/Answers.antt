@@ -1,4 +1,4 @@
-use Prim.Native.Nat.{ℕ, ◌-◌}
+use Prim.Native.Nat.{ℕ}
 use Rattle.check_state.specs.States.{state_of}
 use Rattle.rules.specs.Rules.{add_initial}
 use Rattle.rules.specs.Syntax.{path, Field}

@@ -1,5 +1,4 @@
 use mathlib.Core.Path.{◌≡◌, refl, sym, ◌∙◌}
-use Prim.Native.Nat.{◌-◌}
 use lib.ListN.{length}
 use Rattle.run_footprint.specs.Footprints.{ends_by}
 use Rattle.run_footprint.proofs.Shares.{any_here, any-on, any-past}

@@ -1,4 +1,4 @@
-use Rattle.std.proofs.Common.{◌-◌, true, sym, refl, ◌∙◌, arith}
+use Rattle.std.proofs.Common.{true, sym, refl, ◌∙◌, arith}
 use Rattle.run_heap.proofs.Reading.{spot-at, spot-lacking}
 use Rattle.run_heap.proofs.Walking.{whole-small, whole-free, walk-next, walk-stops}
 use Rattle.run_heap.proofs.strides.stride.Goals as goal

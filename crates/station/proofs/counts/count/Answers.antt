@@ -1,6 +1,5 @@
 use mathlib.Core.Path.{sym, ◌∙◌}
 use native.Mathlib.Omega.{arith}
-use borrow.Author.Tests.{not-true, not-false}
 use Rattle.station.proofs.Calls.{fit-lengths}
 use Rattle.station.proofs.Parts.{asked, wrong-count, shares-refused, share-fits-heap, counted}
 use Rattle.station.proofs.counts.count.Goals as goal

@@ -1,5 +1,4 @@
 use mathlib.Core.Path.{sym, ◌∙◌}
-use borrow.Author.Tests.{not-true, not-false}
 use Rattle.read_types.specs.Verdicts.{test, and_then}
 use Rattle.write_plain.proofs.calls.judge_call.Goals as goal
 

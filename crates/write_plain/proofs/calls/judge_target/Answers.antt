@@ -1,5 +1,5 @@
 use mathlib.Core.Path.{sym, ◌∙◌}
-use borrow.Author.Tests.{not-true, not-false, eq-eqb, ne_eqb}
+use borrow.Author.Tests.{eq-eqb, ne_eqb}
 use Rattle.read_types.specs.Verdicts.{test}
 use Rattle.write_plain.proofs.calls.judge_target.Goals as goal
 

@@ -1,5 +1,5 @@
 use mathlib.Core.Path.{sym, ◌∙◌}
-use borrow.Author.Tests.{not-true, not-false, le-ltb, lt-ltb}
+use borrow.Author.Tests.{le-ltb, lt-ltb}
 use Rattle.read_types.specs.Verdicts.{test, and_then}
 use Rattle.write_plain.proofs.chains.judge_open.Goals as goal
 
