@@ -51,8 +51,8 @@ word-both {v} i n l B =
 pub fill-both : {v w : List ℕ} (i n x : ℕ) → i + n * 4 ≤ length v → Bare v w → Bare (fill v i n x) (fill w i n x)
 unfolding fill
 fill-both i zero x l B = B
-fill-both {v} i (suc n) x l B =
-    fill-both (i + 4) n x (omega (arith, l, put-word-length v i x)) (word-both i x (omega arith) B)
+fill-both {v = v} {w = w} i (suc n) x l B =
+    fill-both {v = put_word v i x} {w = put_word w i x} (i + 4) n x (omega (arith, l, put-word-length v i x)) (word-both i x (omega arith) B)
 
 -- IN THE GHOST ALONE: a region that the lean machine does not read
 ghost-only :

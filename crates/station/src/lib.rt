@@ -23,11 +23,10 @@ ghost use Rattle.checker.specs.Checked as Checker;
 ghost use Rattle.machine.specs.Runs.{main_values};
 ghost use Rattle.station.specs.Station.{numbers_in, Found, RunAs, unless_refused, share_run, CheckLeaves, RunLeaves, BoundLeaves, FillLeaves};
 
-pub use counts::count;
-
 use bounds::bound_found;
 use check_entailment::Answer;
 use checker::Verdict;
+pub use counts::count;
 use fills::fill_text;
 use leans::lean_found;
 use machine::Ran;

@@ -76,5 +76,7 @@ pub extern "C" fn count(
 ) -> u32
     ensures { CountLeaves scripts rounds text1.entry text2.entry text3.entry text4.entry work.entry share1 share2 share3 share4 results.entry result work.exit results.exit }
 {
-    station::count(scripts, rounds, text1, text2, text3, text4, work, share1, share2, share3, share4, results)
+    station::count(
+        scripts, rounds, text1, text2, text3, text4, work, share1, share2, share3, share4, results,
+    )
 }

@@ -51,14 +51,13 @@ pub variable_is-q-requires : goal.variable_is-q-requires
 variable_is-q-requires c = (c.requires.0, c.requires.2)
 
 pub loop-j-init : goal.loop-j-init
-loop-j-init c =
-    (
-      c.entries.invariant.3,
-      c.entries.invariant.1,
-      λ fs D. two-unnamed _ c.args.t c.args.u (permission_at c.args.b.now) _ _
-          (λ i l. (c.first_named-s.ensures.1 fs D).before i (omega (arith, l, c.earlier-first.ensures.0)))
-          (λ i l. (c.first_named-v.ensures.1 fs D).before i (omega (arith, l, c.earlier-first.ensures.1))),
-    )
+loop-j-init c = (
+  c.entries.invariant.3,
+  c.entries.invariant.1,
+  λ fs D. two-unnamed _ c.args.t c.args.u (permission_at c.args.b.now) _ _
+      (λ i l. (c.first_named-s.ensures.1 fs D).before i (omega (arith, l, c.earlier-first.ensures.0)))
+      (λ i l. (c.first_named-v.ensures.1 fs D).before i (omega (arith, l, c.earlier-first.ensures.1))),
+)
 
 pub pair-requires : goal.pair-requires
 pair-requires c =
@@ -84,17 +83,17 @@ pub entries-preserved : goal.entries-preserved
 entries-preserved c = (
   omega arith,
   elim c.if-p-q.branch [
-      then-p-q+else-loop-j-test w ↦ w.found-is ∙ w.loop-j.invariant.1
+    | then-p-q+else-loop-j-test w ↦ w.found-is ∙ w.loop-j.invariant.1
     | else-p-q w ↦ w.found-is ∙ c.entries.invariant.1
-    ],
+  ],
   λ fs D. two_past _ _ _ (permission_at c.args.b.now) _ (c.entries.invariant.2 fs D) (elim c.if-p-q.branch [
-        then-p-q+else-loop-j-test w ↦
-          let e : w.loop-j.j ≡ c.entries.i = omega (arith, w.loop-j-test.false, w.loop-j.invariant.0) in
-          rw e at (w.loop-j.invariant.2 fs D)
-      | else-p-q w ↦
-          two-neither _ _ _ _ _ (sym (c.variable_is-p.ensures fs D) ∙ or-none-left c.variable_is-p.result c.variable_is-q.result w.if-p-q.false)
-          (sym (c.variable_is-q.ensures fs D) ∙ or-none-right c.variable_is-p.result c.variable_is-q.result w.if-p-q.false)
-      ]),
+    | then-p-q+else-loop-j-test w ↦
+        let e : w.loop-j.j ≡ c.entries.i = omega (arith, w.loop-j-test.false, w.loop-j.invariant.0) in
+        rw e at (w.loop-j.invariant.2 fs D)
+    | else-p-q w ↦
+        two-neither _ _ _ _ _ (sym (c.variable_is-p.ensures fs D) ∙ or-none-left c.variable_is-p.result c.variable_is-q.result w.if-p-q.false)
+        (sym (c.variable_is-q.ensures fs D) ∙ or-none-right c.variable_is-p.result c.variable_is-q.result w.if-p-q.false)
+  ]),
   omega (arith, c.entries.invariant.3),
 )
 

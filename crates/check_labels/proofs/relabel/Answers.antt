@@ -26,12 +26,11 @@ pub loop-i-smaller : goal.loop-i-smaller
 loop-i-smaller c = omega arith
 
 pub loop-i-preserved : goal.loop-i-preserved
-loop-i-preserved c =
-    (
-      omega arith,
-      naming-more c.args.b.now _ c.loop-i.i _ _ c.loop-i.invariant.1 (omega (arith, c.requires.1)) c.requires.2.size (λ j h. c.requires.2.low j (omega arith)) _ _
-          (subst (λ (a : ℕ). Named c.loop-i.i a c.args.x c.loop-i.name c.new_label.new.name c.new_label.result) (c.loop-i.invariant.1.rest c.loop-i.i (omega arith)) c.new_label.ensures),
-    )
+loop-i-preserved c = (
+  omega arith,
+  naming-more c.args.b.now _ c.loop-i.i _ _ c.loop-i.invariant.1 (omega (arith, c.requires.1)) c.requires.2.size (λ j h. c.requires.2.low j (omega arith)) _ _
+      (subst (λ (a : ℕ). Named c.loop-i.i a c.args.x c.loop-i.name c.new_label.new.name c.new_label.result) (c.loop-i.invariant.1.rest c.loop-i.i (omega arith)) c.new_label.ensures),
+)
 
 pub returns : goal.returns
 returns c = relabelled _ _ _ _ _ _ (omega arith) c.requires.1 c.requires.2 c.loop-i.invariant.1

@@ -86,13 +86,12 @@ pub lone-requires : goal.lone-requires
 lone-requires c = tt
 
 pub keep_labels-requires : goal.keep_labels-requires
-keep_labels-requires c =
-    (
-      subst Lone (sym c.lone.ensures) (lone_of_lem c.args.x),
-      omega arith,
-      omega (arith, c.loop-i.invariant.2.few, c.requires.0.wf.linked.fit),
-      labels-below c.args.key.now c.args.b.now c.args.gone.now c.args.x c.loop-i.i c.loop-i.n c.loop-i.key c.loop-i.b c.requires.0 (omega arith) c.loop-i.invariant.2,
-    )
+keep_labels-requires c = (
+  subst Lone (sym c.lone.ensures) (lone_of_lem c.args.x),
+  omega arith,
+  omega (arith, c.loop-i.invariant.2.few, c.requires.0.wf.linked.fit),
+  labels-below c.args.key.now c.args.b.now c.args.gone.now c.args.x c.loop-i.i c.loop-i.n c.loop-i.key c.loop-i.b c.requires.0 (omega arith) c.loop-i.invariant.2,
+)
 
 pub returns : goal.returns
 returns c =

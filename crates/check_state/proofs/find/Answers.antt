@@ -16,6 +16,7 @@ module _ (same : Equality) (t : Rules.Term) (g x f : ℕ) where
   by_field : (serves : Bool) → eqb f g ≡ true → passes same t g serves x f ≡ (serves && same (var x) t)
   unfolding passes
   by_field serves e = rw e
+
   by-other : (serves : Bool) → eqb f g ≡ false → passes same t g serves x f ≡ false
   unfolding passes
   by-other true e = rw e
@@ -69,9 +70,9 @@ pub loop-i-preserved : goal.loop-i-preserved
 loop-i-preserved c = (
   omega arith,
   λ fs D. below_more _ _ (c.loop-i.invariant.1 fs D) (elim c.if-b-i.branch [
-        then-b-i+else-names w ↦ by_field _ _ _ _ _ _ (eq-eqb _ _ w.if-b-i.true) ∙ sym (rw w.in_range.ensures at (w.names.ensures fs D)) ∙ w.if-names.false
-      | else-b-i w ↦ by-other _ _ _ _ _ _ (ne_eqb _ _ w.if-b-i.false)
-      ]),
+    | then-b-i+else-names w ↦ by_field _ _ _ _ _ _ (eq-eqb _ _ w.if-b-i.true) ∙ sym (rw w.in_range.ensures at (w.names.ensures fs D)) ∙ w.if-names.false
+    | else-b-i w ↦ by-other _ _ _ _ _ _ (ne_eqb _ _ w.if-b-i.false)
+  ]),
 )
 
 pub returns : goal.returns

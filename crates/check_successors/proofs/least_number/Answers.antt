@@ -10,11 +10,10 @@ pub first_number-i-requires : goal.first_number-i-requires
 first_number-i-requires c = omega (arith, c.requires.2, c.requires.0.most)
 
 pub loop-i-init : goal.loop-i-init
-loop-i-init c =
-    (
-      c.first_number-i.ensures.within,
-      λ fs D. none_before D c.requires.0.most _ _ _ (omega (arith, c.first_number-i.ensures.within, c.requires.2)) c.requires.1 c.first_number-i.ensures.before _ (omega arith),
-    )
+loop-i-init c = (
+  c.first_number-i.ensures.within,
+  λ fs D. none_before D c.requires.0.most _ _ _ (omega (arith, c.first_number-i.ensures.within, c.requires.2)) c.requires.1 c.first_number-i.ensures.before _ (omega arith),
+)
 
 pub overflow_add-i : goal.overflow_add-i
 overflow_add-i c = omega (arith, c.requires.2, c.requires.0.most)

@@ -1,4 +1,3 @@
-use borrow.Author.Tests.{not-true, not-false}
 use Prim.Native.Nat.{ℕ, ◌<◌}
 use mathlib.Core.Path.{refl, sym, ap, subst, ◌∙◌}
 use native.Mathlib.Omega.{arith}
@@ -42,9 +41,9 @@ loop-from-smaller c =
 
 pub loop-from-preserved : goal.loop-from-preserved
 loop-from-preserved c =
-    let d = ap is_end_line (sym c.line_at.ensures) ∙ sym c.is_end.ensures ∙ not-true _ c.loop-from-test.true in
+    let d = ap is_end_line (sym c.line_at.ensures) ∙ sym c.is_end.ensures ∙ c.loop-from-test.true in
     (subst (λ (k : ℕ). k < row_count c.args.work.now) (sym (add-one _)) (row-follows _ 0 _ c.requires.0 c.loop-from.invariant.0 d), c.loop-from.invariant.1 ∙ goes_on _ _ _ d (ap (is_call_line _) (sym c.line_at-in-loop-from.ensures) ∙ sym c.is_call.ensures ∙ c.if-is_call.false) ∙ ap (calls_from _ _) (sym (add-one _)))
 
 pub returns : goal.returns
 returns c =
-    sym (c.loop-from.invariant.1 ∙ ends _ _ _ (ap is_end_line (sym c.line_at.ensures) ∙ sym c.is_end.ensures ∙ not-false _ c.loop-from-test.false))
+    sym (c.loop-from.invariant.1 ∙ ends _ _ _ (ap is_end_line (sym c.line_at.ensures) ∙ sym c.is_end.ensures ∙ c.loop-from-test.false))

@@ -1,5 +1,5 @@
 use mathlib.Core.Path.{ap, ◌∙◌}
-use mathlib.Core.List.{◌∷◌, ◌++◌}
+use mathlib.Core.List.{[], ◌∷◌, ◌++◌}
 use Rattle.rules.specs.Printed.{digits_before}
 use native.Mathlib.Omega.{arith}
 use Rattle.printer.proofs.Writes.{writes-on, writes_as, digits_last, digits-one, digits_more, digits-few}

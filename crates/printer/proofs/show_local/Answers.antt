@@ -1,3 +1,4 @@
+use mathlib.Core.List.{[]}
 use mathlib.Core.Path.{◌≡◌, refl, sym, ap, ap₂, ◌∙◌}
 use Rattle.printer.specs.Answers.{values_in, variable_line}
 use Rattle.printer.proofs.Writes.{writes_as}

@@ -1,3 +1,4 @@
+use mathlib.Core.List.{[]}
 use mathlib.Core.Path.{sym, ap, ◌∙◌}
 use lib.ListN.{get_or, drop}
 use Rattle.rules.specs.Grammar.{kind_of}

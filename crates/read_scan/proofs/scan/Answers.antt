@@ -26,13 +26,12 @@ pub shape_of-work-in-Refused : goal.shape_of-work-in-Refused
 shape_of-work-in-Refused c = c.scan_line-a.ensures.1.size ∙ c.loop-at.invariant.3
 
 pub returns-in-Refused : goal.returns-in-Refused
-returns-in-Refused c =
-    (
-      pass-stop c.loop-at.invariant.1 c.in-Refused.why c.loop-at-test.true
-          (ap line_answer (sym c.in-Refused.is) ∙ c.scan_line-a.ensures.0.is c.loop-at.invariant.1.place c.loop-at.invariant.1.is),
-      tt,
-      c.scan_line-a.ensures.1.size ∙ c.loop-at.invariant.3,
-    )
+returns-in-Refused c = (
+  pass-stop c.loop-at.invariant.1 c.in-Refused.why c.loop-at-test.true
+      (ap line_answer (sym c.in-Refused.is) ∙ c.scan_line-a.ensures.0.is c.loop-at.invariant.1.place c.loop-at.invariant.1.is),
+  tt,
+  c.scan_line-a.ensures.1.size ∙ c.loop-at.invariant.3,
+)
 
 pub overflow_add-at : goal.overflow_add-at
 overflow_add-at c =

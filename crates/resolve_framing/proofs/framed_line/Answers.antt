@@ -1,3 +1,4 @@
+use mathlib.Core.List.{[]}
 use mathlib.Core.Path.{ap, sym, ◌∙◌}
 use Rattle.rules.specs.Reading.{framed}
 use Rattle.resolve_framing.proofs.Framing.{as-loop, as-formula}

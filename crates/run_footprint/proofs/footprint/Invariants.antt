@@ -1,3 +1,4 @@
+use mathlib.Core.List.{[]}
 use lib.ListN.{length, take}
 use mathlib.Core.Path.{◌≡◌}
 use Rattle.run_footprint.specs.Footprints.{take_in, Sieve}

@@ -1,3 +1,4 @@
+use mathlib.Core.List.{[]}
 use mathlib.Core.Path.{sym, ◌∙◌}
 use Rattle.run_footprint.specs.Footprints.{took_is, count_of}
 use Rattle.run_heap.proofs.Reading.{spot-at, spot-lacking, spot-small}
@@ -27,28 +28,26 @@ put_share-requires c =
     )
 
 pub returns-in-At : goal.returns-in-At
-returns-in-At c =
-    (
-      record {
-        took = c.put_share.ensures.0.took ∙ own_at _ c.args.v _ _ _ _ _ (c.requires.0.0.tables.atom_fits c.args.a c.requires.0.1.0)
-            c.requires.0.1.1 c.atom_kind-halves.ensures.0 c.atom_variable-x.ensures.0 c.atom_field-f.ensures.0 _
-            (spot-at _ _ c.in-At.is c.locate.ensures);
-        count = c.put_share.ensures.0.count;
-        size = c.put_share.ensures.0.size;
-      },
-      c.put_share.ensures.1,
-    )
+returns-in-At c = (
+  record {
+    took = c.put_share.ensures.0.took ∙ own_at _ c.args.v _ _ _ _ _ (c.requires.0.0.tables.atom_fits c.args.a c.requires.0.1.0)
+        c.requires.0.1.1 c.atom_kind-halves.ensures.0 c.atom_variable-x.ensures.0 c.atom_field-f.ensures.0 _
+        (spot-at _ _ c.in-At.is c.locate.ensures);
+    count = c.put_share.ensures.0.count;
+    size = c.put_share.ensures.0.size;
+  },
+  c.put_share.ensures.1,
+)
 
 pub returns-in-Lacking : goal.returns-in-Lacking
 unfolding took_is count_of
-returns-in-Lacking c =
-    (
-      record {
-        took = sym
-            (own-lacking _ c.args.v _ _ _ _ _ (c.requires.0.0.tables.atom_fits c.args.a c.requires.0.1.0) c.requires.0.1.1 c.atom_kind-halves.ensures.0
-            c.atom_variable-x.ensures.0 c.atom_field-f.ensures.0 _ (spot-lacking _ _ c.in-Lacking.is c.locate.ensures));
-        count = omega arith;
-        size = c.requires.1.0.1;
-      },
-      sieve-none c.args.shares.now _ c.requires.1.1.size,
-    )
+returns-in-Lacking c = (
+  record {
+    took = sym
+        (own-lacking _ c.args.v _ _ _ _ _ (c.requires.0.0.tables.atom_fits c.args.a c.requires.0.1.0) c.requires.0.1.1 c.atom_kind-halves.ensures.0
+        c.atom_variable-x.ensures.0 c.atom_field-f.ensures.0 _ (spot-lacking _ _ c.in-Lacking.is c.locate.ensures));
+    count = omega arith;
+    size = c.requires.1.0.1;
+  },
+  sieve-none c.args.shares.now _ c.requires.1.1.size,
+)

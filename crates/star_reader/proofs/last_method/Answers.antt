@@ -28,19 +28,19 @@ pub loop-i-preserved : goal.loop-i-preserved
 loop-i-preserved c =
     let e = ap (λ r. r.kind) c.line_word-w.ensures in
     elim c.if-w-eq-METHOD.branch [
-        then-w-eq-METHOD w ↦ (
-          omega (arith, c.loop-i-test.true),
-          w.next-is ∙ one-header c.args.work.now c.loop-i.i _ c.loop-i.invariant.1 (sym e ∙ w.if-w-eq-METHOD.true),
-          w.last-is ∙ (sym (ap pred (add-one _)) ∙ ap pred (sym w.next-is)),
-          omega (arith, w.next-is, c.loop-i.invariant.3),
-        )
+      | then-w-eq-METHOD w ↦ (
+        omega (arith, c.loop-i-test.true),
+        w.next-is ∙ one-header c.args.work.now c.loop-i.i _ c.loop-i.invariant.1 (sym e ∙ w.if-w-eq-METHOD.true),
+        w.last-is ∙ (sym (ap pred (add-one _)) ∙ ap pred (sym w.next-is)),
+        omega (arith, w.next-is, c.loop-i.invariant.3),
+      )
       | else-w-eq-METHOD w ↦ (
-          omega (arith, c.loop-i-test.true),
-          w.next-is ∙ no_header c.args.work.now c.loop-i.i _ c.loop-i.invariant.1 (λ z. w.if-w-eq-METHOD.false (e ∙ z)),
-          w.last-is ∙ (c.loop-i.invariant.2 ∙ ap pred (sym w.next-is)),
-          omega (arith, w.next-is, c.loop-i.invariant.3),
-        )
-      ]
+        omega (arith, c.loop-i-test.true),
+        w.next-is ∙ no_header c.args.work.now c.loop-i.i _ c.loop-i.invariant.1 (λ z. w.if-w-eq-METHOD.false (e ∙ z)),
+        w.last-is ∙ (c.loop-i.invariant.2 ∙ ap pred (sym w.next-is)),
+        omega (arith, w.next-is, c.loop-i.invariant.3),
+      )
+    ]
 
 pub returns : goal.returns
 returns c =

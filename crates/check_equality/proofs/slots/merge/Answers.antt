@@ -16,6 +16,7 @@ picked_more from to old l i n h before e j g = ⊎_elim here there (decide_eq j 
   where
     here : j ≡ i → get_or (set l i n) j 0 ≡ picked from to (get_or old j 0)
     here d = rw d (get_or-set_same l i n 0 h ∙ e)
+
     there : (j ≡ i → ⊥) → get_or (set l i n) j 0 ≡ picked from to (get_or old j 0)
     there d = get_or-set_other l i j n 0 d ∙ before j (omega arith)
 
@@ -38,15 +39,14 @@ pub loop-i-smaller : goal.loop-i-smaller
 loop-i-smaller c = omega arith
 
 pub loop-i-preserved : goal.loop-i-preserved
-loop-i-preserved c =
-    (
-      omega arith,
-      length-set c.loop-i.label c.loop-i.i _ ∙ c.loop-i.invariant.1,
-      c.loop-i.invariant.2,
-      picked_more c.args.from c.args.to c.args.label.now c.loop-i.label c.loop-i.i _ (omega (arith, c.loop-i.invariant.1)) c.loop-i.invariant.3
-          (c.pick.ensures ∙ ap (picked c.args.from c.args.to) (c.loop-i.invariant.4 c.loop-i.i (omega arith))),
-      λ j h. get_or-set_other c.loop-i.label c.loop-i.i j _ 0 (omega arith) ∙ c.loop-i.invariant.4 j (omega arith),
-    )
+loop-i-preserved c = (
+  omega arith,
+  length-set c.loop-i.label c.loop-i.i _ ∙ c.loop-i.invariant.1,
+  c.loop-i.invariant.2,
+  picked_more c.args.from c.args.to c.args.label.now c.loop-i.label c.loop-i.i _ (omega (arith, c.loop-i.invariant.1)) c.loop-i.invariant.3
+      (c.pick.ensures ∙ ap (picked c.args.from c.args.to) (c.loop-i.invariant.4 c.loop-i.i (omega arith))),
+  λ j h. get_or-set_other c.loop-i.label c.loop-i.i j _ 0 (omega arith) ∙ c.loop-i.invariant.4 j (omega arith),
+)
 
 pub returns : goal.returns
 returns c =

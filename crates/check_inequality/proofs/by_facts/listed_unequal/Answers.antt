@@ -104,9 +104,9 @@ pub loop-i-preserved : goal.loop-i-preserved
 loop-i-preserved c = (
   omega arith,
   elim c.if-some_unequal.branch [
-      then-some_unequal+else-unequal_from w ↦ sym w.unequal_from.ensures ∙ w.if-unequal_from.false
+    | then-some_unequal+else-unequal_from w ↦ sym w.unequal_from.ensures ∙ w.if-unequal_from.false
     | else-some_unequal w ↦ equal-block c.args.b.now c.args.x c.args.y _ c.loop-i.invariant.1 (sym c.some_unequal.ensures ∙ w.if-some_unequal.false)
-    ],
+  ],
 )
 
 pub unequal_from-requires-2 : goal.unequal_from-requires-2

@@ -19,20 +19,19 @@ pub fresh-requires : goal.fresh-requires
 fresh-requires c = c.requires.size
 
 pub loop-i-init : goal.loop-i-init
-loop-i-init c =
-    (
-      omega arith,
-      omega arith,
-      fresh-linked _ _ c.requires.header (c.fresh.ensures.size ∙ c.requires.size) c.fresh.ensures.own,
-      record {
-        size = refl;
-        at = λ j h g. absurd (omega arith);
-      },
-      λ ρ old S. listed-none _ ∙ sym (facts-none ρ old c.fresh.new.b),
-      λ j h. refl,
-      λ j h.
-          refl,
-    )
+loop-i-init c = (
+  omega arith,
+  omega arith,
+  fresh-linked _ _ c.requires.header (c.fresh.ensures.size ∙ c.requires.size) c.fresh.ensures.own,
+  record {
+    size = refl;
+    at = λ j h g. absurd (omega arith);
+  },
+  λ ρ old S. listed-none _ ∙ sym (facts-none ρ old c.fresh.new.b),
+  λ j h. refl,
+  λ j h.
+      refl,
+)
 
 pub overflow_mul-l : goal.overflow_mul-l
 overflow_mul-l c = omega (arith, c.requires.fit)
@@ -87,18 +86,17 @@ pub loop-i-smaller : goal.loop-i-smaller
 loop-i-smaller c = omega arith
 
 pub loop-i-preserved : goal.loop-i-preserved
-loop-i-preserved c =
-    (
-      omega (arith, c.keep_fact-n.ensures.0.few),
-      omega arith,
-      c.keep_fact-n.ensures.0.linked,
-      c.keep_fact-n.ensures.1,
-      λ ρ old S. facts-next ρ
-          old c.args.key.now c.fresh.new.b c.args.gone.now _ c.loop-i.i S (omega arith) _ _ _ _ _ _ c.keep_fact-n.ensures.0.facts c.trivial.ensures (c.loop-i.invariant.5 (left_sides + 2 * c.loop-i.i) (omega arith)) (c.loop-i.invariant.5 (right_sides + 2 * c.loop-i.i) (omega arith)) (c.loop-i.invariant.6 (relations_at + c.loop-i.i) (omega arith)) (c.loop-i.invariant.4 ρ old S),
-      λ j h. c.keep_fact-n.ensures.0.keys j (omega arith) ∙ c.loop-i.invariant.5 j
-          (omega arith),
-      λ j h. c.keep_fact-n.ensures.0.rest j (omega arith) ∙ c.loop-i.invariant.6 j (omega arith),
-    )
+loop-i-preserved c = (
+  omega (arith, c.keep_fact-n.ensures.0.few),
+  omega arith,
+  c.keep_fact-n.ensures.0.linked,
+  c.keep_fact-n.ensures.1,
+  λ ρ old S. facts-next ρ
+      old c.args.key.now c.fresh.new.b c.args.gone.now _ c.loop-i.i S (omega arith) _ _ _ _ _ _ c.keep_fact-n.ensures.0.facts c.trivial.ensures (c.loop-i.invariant.5 (left_sides + 2 * c.loop-i.i) (omega arith)) (c.loop-i.invariant.5 (right_sides + 2 * c.loop-i.i) (omega arith)) (c.loop-i.invariant.6 (relations_at + c.loop-i.i) (omega arith)) (c.loop-i.invariant.4 ρ old S),
+  λ j h. c.keep_fact-n.ensures.0.keys j (omega arith) ∙ c.loop-i.invariant.5 j
+      (omega arith),
+  λ j h. c.keep_fact-n.ensures.0.rest j (omega arith) ∙ c.loop-i.invariant.6 j (omega arith),
+)
 
 pub overflow_cast-b : goal.overflow_cast-b
 overflow_cast-b c = omega (arith, c.requires.fit)

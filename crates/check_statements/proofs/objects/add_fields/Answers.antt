@@ -41,14 +41,13 @@ loop-j-smaller c = omega arith
 
 pub loop-j-preserved : goal.loop-j-preserved
 unfolding permit_of
-loop-j-preserved c =
-    (
-      omega arith,
-      (c.add_permission-k.ensures _ c.loop-j.invariant.1).wf,
-      c.loop-j.invariant.2 ∙ permission-more c.args.w.now c.args.c c.args.x c.args.n c.loop-j.j c.loop-j-test.true (state_of c.args.key.now c.loop-j.b) ∙ after-done _ _ _ (subst (λ (f :
-          ℕ). Adds (Rules.add_permission (entry acc c.args.x f) (state_of c.args.key.now c.loop-j.b)) c.add_permission-k.result c.args.key.now c.add_permission-k.new.b) c.field_name_at.ensures.0 (c.add_permission-k.ensures _ c.loop-j.invariant.1)).same _
-          c.in-Done.is,
-    )
+loop-j-preserved c = (
+  omega arith,
+  (c.add_permission-k.ensures _ c.loop-j.invariant.1).wf,
+  c.loop-j.invariant.2 ∙ permission-more c.args.w.now c.args.c c.args.x c.args.n c.loop-j.j c.loop-j-test.true (state_of c.args.key.now c.loop-j.b) ∙ after-done _ _ _ (subst (λ (f :
+      ℕ). Adds (Rules.add_permission (entry acc c.args.x f) (state_of c.args.key.now c.loop-j.b)) c.add_permission-k.result c.args.key.now c.add_permission-k.new.b) c.field_name_at.ensures.0 (c.add_permission-k.ensures _ c.loop-j.invariant.1)).same _
+      c.in-Done.is,
+)
 
 pub returns : goal.returns
 returns c =

@@ -46,15 +46,14 @@ pub loop-j-smaller : goal.loop-j-smaller
 loop-j-smaller c = omega arith
 
 pub loop-j-preserved : goal.loop-j-preserved
-loop-j-preserved c =
-    (
-      omega arith,
-      c.add_fact-k.ensures.wf,
-      c.loop-j.invariant.2 ∙ initial-more c.args.w.now c.args.c c.args.x c.args.n
-          c.loop-j.j c.loop-j-test.true (state_of c.loop-j.key c.loop-j.b) ∙ after-done _ _ _ (adds_same _ _ c.add_fact-k.result _ _ (field-fact
-          _ _ _ _ _ (state_of c.loop-j.key c.loop-j.b) (c.path_key-path.ensures.0 ∙ ap (λ (f : ℕ). path c.args.x f) c.field_name_at.ensures.0)
-          (c.initial.ensures ∙ ap initial_of c.field_kind_at.ensures.0)) c.add_fact-k.ensures).same _ c.in-Done.is,
-    )
+loop-j-preserved c = (
+  omega arith,
+  c.add_fact-k.ensures.wf,
+  c.loop-j.invariant.2 ∙ initial-more c.args.w.now c.args.c c.args.x c.args.n
+      c.loop-j.j c.loop-j-test.true (state_of c.loop-j.key c.loop-j.b) ∙ after-done _ _ _ (adds_same _ _ c.add_fact-k.result _ _ (field-fact
+      _ _ _ _ _ (state_of c.loop-j.key c.loop-j.b) (c.path_key-path.ensures.0 ∙ ap (λ (f : ℕ). path c.args.x f) c.field_name_at.ensures.0)
+      (c.initial.ensures ∙ ap initial_of c.field_kind_at.ensures.0)) c.add_fact-k.ensures).same _ c.in-Done.is,
+)
 
 pub returns : goal.returns
 returns c =

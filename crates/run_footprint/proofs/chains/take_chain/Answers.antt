@@ -36,26 +36,24 @@ put_chain-requires c =
     (c.requires.0.0, c.requires.1)
 
 pub returns-in-Got : goal.returns-in-Got
-returns-in-Got c =
-    (
-      record {
-        took = c.put_chain.ensures.0.took ∙ sym (chain-takes _ c.args.v c.args.a _ _ _ _ (c.requires.0.0.tables.atom_fits c.args.a c.requires.0.1.0) c.requires.0.1.1 c.atom_variable-x.ensures.0 c.atom_field-f.ensures.0 c.variable-o.ensures
-            ∙ chain-walked _ _ _ _ _ _ c.if-o-eq0.false (read-got _ _ c.in-Got.is c.walk_after.ensures));
-        count = c.put_chain.ensures.0.count;
-        size = c.put_chain.ensures.0.size;
-      },
-      c.put_chain.ensures.1,
-    )
+returns-in-Got c = (
+  record {
+    took = c.put_chain.ensures.0.took ∙ sym (chain-takes _ c.args.v c.args.a _ _ _ _ (c.requires.0.0.tables.atom_fits c.args.a c.requires.0.1.0) c.requires.0.1.1 c.atom_variable-x.ensures.0 c.atom_field-f.ensures.0 c.variable-o.ensures
+        ∙ chain-walked _ _ _ _ _ _ c.if-o-eq0.false (read-got _ _ c.in-Got.is c.walk_after.ensures));
+    count = c.put_chain.ensures.0.count;
+    size = c.put_chain.ensures.0.size;
+  },
+  c.put_chain.ensures.1,
+)
 
 pub returns-in-Lacking : goal.returns-in-Lacking
 unfolding took_is count_of
-returns-in-Lacking c =
-    (
-      record {
-        took = sym (chain-takes _ c.args.v c.args.a _ _ _ _ (c.requires.0.0.tables.atom_fits c.args.a c.requires.0.1.0) c.requires.0.1.1 c.atom_variable-x.ensures.0 c.atom_field-f.ensures.0 c.variable-o.ensures
-            ∙ chain-stops _ _ _ _ _ _ c.if-o-eq0.false (read-lacking _ _ c.in-Lacking.is c.walk_after.ensures));
-        count = omega arith;
-        size = c.requires.1.0.1;
-      },
-      sieve-none c.args.shares.now _ c.requires.1.1.size,
-    )
+returns-in-Lacking c = (
+  record {
+    took = sym (chain-takes _ c.args.v c.args.a _ _ _ _ (c.requires.0.0.tables.atom_fits c.args.a c.requires.0.1.0) c.requires.0.1.1 c.atom_variable-x.ensures.0 c.atom_field-f.ensures.0 c.variable-o.ensures
+        ∙ chain-stops _ _ _ _ _ _ c.if-o-eq0.false (read-lacking _ _ c.in-Lacking.is c.walk_after.ensures));
+    count = omega arith;
+    size = c.requires.1.0.1;
+  },
+  sieve-none c.args.shares.now _ c.requires.1.1.size,
+)
