@@ -3,4 +3,4 @@ use lib.Seq.{length-take-le}
 use Rattle.script.proofs.print_answer.Goals as goal
 
 pub slice_bounds-write_all-end : goal.slice_bounds-write_all-end
-slice_bounds-write_all-end c = sym (length-take-le _ _ c.answer-n.ensures.high)
+slice_bounds-write_all-end g c = sym (length-take-le _ _ c.answer-n.ensures.high)

@@ -4,7 +4,7 @@ use lib.ListN.{length}
 use Rattle.script.proofs.read_input.Given as goal
 
 abbrev pub invariant-loop-done : goal.invariant-loop-done
-invariant-loop-done l = (length l.area ≡ length l.initial.area) × (l.done ≤ length l.area)
+invariant-loop-done g l = (length l.area ≡ length l.initial.area) × (l.done ≤ length l.area)
 
 abbrev pub decreases-loop-done : goal.decreases-loop-done
-decreases-loop-done l = length l.initial.area - l.done
+decreases-loop-done g l = length l.initial.area - l.done
