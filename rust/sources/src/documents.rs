@@ -70,22 +70,24 @@ fn rows(page: &str) -> Vec<Row<'_>> {
     rows
 }
 
-/// The crates that `crates.txt` lists.
-pub fn listed_crates(list: &str) -> Vec<&str> {
-    let lines = list
-        .lines()
-        .map(|line| line.split('#').next().unwrap_or(""));
-    lines
-        .filter_map(|line| Some(line.split_once(':')?.0.trim()))
-        .collect()
+/// The crate of a line of `crates.txt`, and what it depends on. A static library has the word after its name.
+fn listed_crate(line: &str) -> Option<(&str, &str)> {
+    let (head, needs) = line.split('#').next()?.split_once(':')?;
+    Some((head.split_whitespace().next()?, needs))
 }
 
-/// How many crates `rt check` of one proves: itself and those of the list that it depends on.
+/// The crates that `crates.txt` lists.
+pub fn listed_crates(list: &str) -> Vec<&str> {
+    let lines = list.lines().filter_map(listed_crate);
+    lines.map(|(name, _)| name).collect()
+}
+
+/// How many crates a check of one with all below it proves: itself and those of the list that it depends on.
 pub fn proved_crates(list: &str, name: &str) -> Option<usize> {
     let listed = listed_crates(list);
-    let of = |line: &str| Some(line.split_once(':')?.0 == name);
-    let line = list.lines().find(|line| of(line) == Some(true))?;
-    let needs = line.split([' ', ':']).skip(1);
+    let mut lines = list.lines().filter_map(listed_crate);
+    let (_, needs) = lines.find(|(listed, _)| *listed == name)?;
+    let needs = needs.split_whitespace();
     Some(1 + needs.filter(|need| listed.contains(need)).count())
 }
 

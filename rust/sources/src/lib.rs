@@ -44,7 +44,13 @@ pub use words::{avoided_words, texts_for_people, Avoided, AVOIDED};
 const UMBRELLAS: [&str; 2] = ["opened", "computing"];
 
 /// Names that a `do` block uses without saying so.
-const SEQUENCING: [&str; 2] = ["_>>=_", "_>>_"];
+const SEQUENCING: [&str; 2] = ["◌>>=◌", "◌>>◌"];
+
+/// Where the arguments of an infix name stand.
+const PLACE: char = '◌';
+
+/// The files of a function's proof.
+const ANSWERS: [&str; 3] = ["/Answers.antt", "/Invariants.antt", "/Proof.antt"];
 
 /// One file below `crates/`.
 pub struct Source {
@@ -80,7 +86,7 @@ impl Source {
     }
 
     pub fn is_answer(&self) -> bool {
-        self.place.ends_with("/Proof.antt")
+        self.place.starts_with("proofs/") && ANSWERS.iter().any(|name| self.place.ends_with(name))
     }
 
     pub fn is_code(&self) -> bool {
@@ -164,8 +170,8 @@ pub fn words(line: &str) -> impl Iterator<Item = &str> {
 
 /// The words by which a declared name is used: of an infix one, its signs.
 pub fn signs(name: &str) -> Vec<&str> {
-    let parts: Vec<_> = name.split('_').filter(|part| !part.is_empty()).collect();
-    let infix = name.starts_with('_') || name.ends_with('_');
+    let parts: Vec<_> = name.split(PLACE).filter(|part| !part.is_empty()).collect();
+    let infix = name.starts_with(PLACE) || name.ends_with(PLACE);
     if infix && !parts.is_empty() {
         parts
     } else {
@@ -219,9 +225,13 @@ impl Uses {
         let whole = self.has(name, declared, but);
         let by_signs = || {
             signs(name).iter().all(|sign| {
-                [sign.to_string(), format!("{sign}_"), format!("_{sign}")]
-                    .iter()
-                    .any(|word| self.has(word, declared, but))
+                [
+                    sign.to_string(),
+                    format!("{sign}{PLACE}"),
+                    format!("{PLACE}{sign}"),
+                ]
+                .iter()
+                .any(|word| self.has(word, declared, but))
             })
         };
         let in_block = || SEQUENCING.contains(&name) && self.has("do", declared, but);

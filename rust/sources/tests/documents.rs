@@ -101,23 +101,26 @@ fn what_must_be_believed() {
 /// The closure goes over imports of definitions, in the own crate and in others, and not over types of code.
 #[test]
 fn what_claims_import() {
-    let own = "use Rattle·rules·specs.specs.State.{Term}";
+    let some = "use Rattle.rules.specs.State.{Term}";
     assert_eq!(
-        imported(own).as_deref(),
+        imported(some).as_deref(),
         Some("crates/rules/specs/State.antt")
     );
-    let other = "use Rattle·rules.specs.Syntax as Syntax";
+    let whole = "pub use Rattle.rules.specs.Syntax as Syntax";
     assert_eq!(
-        imported(other).as_deref(),
+        imported(whole).as_deref(),
         Some("crates/rules/specs/Syntax.antt")
     );
-    assert_eq!(
-        imported("use Rattle·tables.specs.declared.Expr.{Expr}"),
-        None
-    );
-    assert_eq!(imported("use mathlib.Core.List.{List}"), None);
+    for none in [
+        "use Rattle.tables.specs.declared.Expr.{Expr}",
+        "use Rattle.rules.proofs.Lists.{T_true}",
+        "use Rattle.std.specs.Prelude.{List}",
+        "use Prim.Native.String.{String}",
+    ] {
+        assert_eq!(imported(none), None, "{none}");
+    }
     let read = |path: &str| match path {
-        "crates/one/specs/Claim.antt" => "use Rattle·two.specs.Base.{a}\n".to_string(),
+        "crates/one/specs/Claim.antt" => "use Rattle.two.specs.Base.{a}\n".to_string(),
         _ => String::new(),
     };
     let files = closure(&["crates/one/specs/Claim.antt"], read);
@@ -235,8 +238,8 @@ const TABLES: &str = "# `one`: a crate\n\n| Crate | Holds |\n|---|---|\n| `one` 
 
 #[test]
 fn a_crate_without_its_row_is_found() {
-    let list = "# crates\none:\ntwo: one # more\n";
-    assert_eq!(listed_crates(list), ["one", "two"]);
+    let list = "# crates\none:\ntwo: one # more\nthree staticlib: one two\n";
+    assert_eq!(listed_crates(list), ["one", "two", "three"]);
     assert_eq!(crates_not_told(&["one"], TABLES), [""; 0]);
     assert_eq!(
         crates_not_told(&["one", "two"], TABLES),
