@@ -26,7 +26,8 @@ mod words;
 pub use believed::{believed, closure, imported, listed};
 pub use declared::{declarations, Declaration};
 pub use documents::{
-    crates_not_told, documents, files_told, listed_crates, proved_crates, wrong_counts, Document,
+    crates_not_told, documents, files_told, listed_crates, proved_crates, shown_counts, Counts,
+    Document,
 };
 pub use edits::{edit_fault, edits};
 pub use functions::{functions, Clause, Function};

@@ -2,7 +2,7 @@
 
 use sources::{
     believed, closure, crates_not_told, documents, expect_none, files_told, imported, listed,
-    listed_crates, proved_crates, root, sources, wrong_counts, Document, Names,
+    listed_crates, proved_crates, root, shown_counts, sources, Document, Names,
 };
 use std::collections::BTreeSet;
 use std::process::Command;
@@ -65,8 +65,12 @@ fn every_crate_has_its_row() {
 #[test]
 fn counts_of_crates() {
     let list = Document::of("crates.txt").text;
-    let wrong = wrong_counts(&list, &document("ASSURANCE.md"));
-    expect_none(&wrong, "docs/ASSURANCE.md has another number of crates");
+    let told = shown_counts(&list, &document("ASSURANCE.md"));
+    expect_none(
+        &told.wrong,
+        "docs/ASSURANCE.md has another number of crates",
+    );
+    assert_eq!(told.rows, 3, "docs/ASSURANCE.md shows these checks");
     let below = proved_crates(&list, "script").expect("the program") - 1;
     let told = format!("everything below it, {below} crates");
     let page = Document::of("README.md").text;
@@ -258,12 +262,18 @@ fn a_wrong_count_is_found() {
     let list = "one:\ntwo: one io\n";
     let counts = ["one", "two", "io"].map(|name| proved_crates(list, name));
     assert_eq!(counts, [Some(1), Some(2), None]);
-    let row = |count: &str| format!("| `rt check two` | it | `rt: ok, {count} crates proved` |\n");
-    assert_eq!(wrong_counts(list, &row("2")), [""; 0]);
+    let row = |count: &str| format!("| `rt check` in `crates/two` | it{count} | `ok` |\n");
+    let wrong = |count: &str| shown_counts(list, &row(count)).wrong;
+    assert_eq!(wrong(": `2 crates`"), [""; 0]);
     assert_eq!(
-        wrong_counts(list, &row("3")),
-        ["`rt check two`: 2 crates proved, not 3 crates proved"]
+        wrong(": `3 crates`"),
+        ["`rt check` in `crates/two`: 2 crates, not 3 crates"]
     );
+    assert_eq!(
+        wrong(""),
+        ["`rt check` in `crates/two`: 2 crates, not no number"]
+    );
+    assert_eq!(shown_counts(list, &row("").repeat(2)).rows, 2);
 }
 
 #[test]
