@@ -50,6 +50,9 @@ const SEQUENCING: [&str; 2] = ["◌>>=◌", "◌>>◌"];
 /// Where the arguments of an infix name stand.
 const PLACE: char = '◌';
 
+/// Folders that a build makes: cargo's, and that of a proved crate.
+const MADE: [&str; 2] = ["target", "out"];
+
 /// The files of a function's proof.
 const ANSWERS: [&str; 3] = ["/Answers.antt", "/Invariants.antt", "/Proof.antt"];
 
@@ -100,6 +103,12 @@ pub fn root() -> PathBuf {
     Path::new(env!("CARGO_MANIFEST_DIR")).join("../..")
 }
 
+/// Does a build make this folder?
+fn is_made(path: &Path) -> bool {
+    path.file_name()
+        .is_some_and(|name| MADE.iter().any(|made| name == *made))
+}
+
 /// What stands in a folder, by name.
 fn entries(folder: &Path) -> Vec<PathBuf> {
     let mut entries: Vec<_> = fs::read_dir(folder)
@@ -112,7 +121,9 @@ fn entries(folder: &Path) -> Vec<PathBuf> {
 
 fn files(folder: &Path, found: &mut Vec<PathBuf>) {
     for path in entries(folder) {
-        if path.is_dir() {
+        if is_made(&path) {
+            continue;
+        } else if path.is_dir() {
             files(&path, found);
         } else {
             found.push(path);
@@ -120,7 +131,7 @@ fn files(folder: &Path, found: &mut Vec<PathBuf>) {
     }
 }
 
-/// Every file below `crates/`: its crate, its place there and its text.
+/// Every file below `crates/` but for what a check makes: its crate, its place there and its text.
 fn crate_files(wanted: impl Fn(&Path) -> bool) -> Vec<Source> {
     let top = root().join("crates");
     let mut found = Vec::new();

@@ -221,7 +221,7 @@ fn a_lost_path_is_found() {
         false,
     );
     lost_of(
-        "target/lost.md docs/target/lost and/or PREFIX/docs lost",
+        "target/lost.md docs/target/lost crates/out/lost.md and/or PREFIX/docs lost",
         false,
     );
     let blocks = "```\n`lost.md`\n```\n\n    `lost.md`\n\nlost.md\n";
