@@ -40,12 +40,6 @@ fn taken(names: &str) -> Vec<(String, String)> {
         .collect()
 }
 
-/// Of what code takes of other code those that get a name here: a trait is used by its methods, without its name.
-fn renamed(names: &str) -> Vec<(String, String)> {
-    let taken = taken(names).into_iter();
-    taken.filter(|(name, here)| name != here).collect()
-}
-
 /// The crate and the module of a path: `Rattle.rules.specs.Base`.
 fn parted(path: &str) -> (Option<String>, String) {
     let Some(rest) = path.strip_prefix("Rattle.") else {
@@ -59,7 +53,8 @@ fn read(statement: &str, first: usize, end: usize) -> Import {
     let body = statement.trim().trim_end_matches(';');
     let (path, names) = match (body.split_once(".{"), body.split_once("::{")) {
         (Some((path, names)), _) => (path, Some(taken(names.trim_end_matches('}')))),
-        (None, Some((path, names))) => (path, Some(renamed(names.trim_end_matches('}')))),
+        // What code takes in a group is not looked at: a trait is used by its methods, without its name.
+        (None, Some((path, _))) => (path, None),
         (None, None) => (body, None),
     };
     let (path, alias) = match path.split_once(" as ") {

@@ -64,10 +64,10 @@ fn a_name_of_another_module_is_no_use() {
 
 #[test]
 fn a_name_that_code_gives_and_does_not_use_is_found() {
-    let code = "// code\nuse one::{Kind as Sort, Most, State as Of};\n\nfn f(x: Of) {}\n";
+    let code = "// code\nuse one::{Kind as Sort, Most};\nuse one::Kind as Line;\nuse one::State as Of;\n\nfn f(x: Of) {}\n";
     assert_eq!(
         unused_imports(&[made("two", "src/lib.rt", code)]),
-        ["crates/two/src/lib.rt: Sort of one"]
+        ["crates/two/src/lib.rt: Line of one::Kind"]
     );
 }
 
