@@ -151,7 +151,7 @@ fn declared() -> Vec<String> {
 }
 
 /// The library defines the header's functions and no other global name; they are
-/// the exported functions of `station`.
+/// the exported functions of `station_c`.
 #[test]
 fn global_names() {
     let output = Command::new("nm")
@@ -175,7 +175,7 @@ fn global_names() {
         .map(|name| format!("station_{name}"))
         .collect();
     assert_eq!(names, with_prefix);
-    let sources = Path::new(env!("CARGO_MANIFEST_DIR")).join("../../crates/station/src");
+    let sources = Path::new(env!("CARGO_MANIFEST_DIR")).join("../../crates/station_c/src");
     let source: String = std::fs::read_dir(sources)
         .expect("the sources")
         .map(|entry| std::fs::read_to_string(entry.expect("a file").path()).expect("a source"))

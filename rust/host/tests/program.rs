@@ -1,8 +1,8 @@
 //! The proved programs print, to the byte, what the model says: `script`, that of
 //! document 01, and `small`, that of W14.
 //!
-//! They are target/bin/script and target/bin/small; `rt check` proves and makes them,
-//! or finds them unchanged. The environment variables STATION_SCRIPT and STATION_SMALL
+//! They are crates/script/out/script and crates/small/out/small; `rt run` proves and makes
+//! them, or finds them unchanged. The environment variables STATION_SCRIPT and STATION_SMALL
 //! name other files instead.
 
 #[path = "support/cases.rs"]
@@ -22,14 +22,17 @@ fn made(name: &str, variable: &str) -> PathBuf {
     if let Some(named) = std::env::var_os(variable) {
         return named.into();
     }
+    let folder = root().join("crates").join(name);
+    // It runs the program too, on an empty text.
     let made = Command::new("rt")
-        .args(["check", name])
-        .current_dir(root())
+        .arg("run")
+        .current_dir(&folder)
+        .stdin(Stdio::null())
         .output()
         .expect("rt starts");
-    let said = String::from_utf8_lossy(&made.stdout);
-    assert!(made.status.success(), "rt check {name}: {said}");
-    root().join("target/bin").join(name)
+    let said = String::from_utf8_lossy(&made.stderr);
+    assert!(made.status.success(), "rt run in crates/{name}: {said}");
+    folder.join("out").join(name)
 }
 
 /// The program of document 01, made once however many tests ask for it.

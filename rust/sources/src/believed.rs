@@ -25,16 +25,18 @@ pub const CLAIMS: [&str; 16] = [
     "crates/unseen/specs/Unseen.antt",
 ];
 
-/// The file of definitions that an import names: `use Rattle·rules.specs.State.{..}`, or `Rattle·rules·specs.specs.State` in its own
-/// crate. A type that code declares is none.
+/// The kit's library, whose definitions are the logic's.
+const KIT: &str = "std";
+
+/// The file of definitions that an import names: `use Rattle.rules.specs.State.{..}`. One of the kit's library is none of the
+/// repository's, and a type that code declares is none.
 pub fn imported(line: &str) -> Option<String> {
-    let name = line.strip_prefix("use Rattle·")?;
-    let end = name.find(['.', '·'])?;
-    let (krate, rest) = name.split_at(end);
-    let rest = rest.strip_prefix("·specs").unwrap_or(rest);
-    let module = rest.strip_prefix(".specs.")?;
+    let name = line.strip_prefix("pub ").unwrap_or(line);
+    let name = name.strip_prefix("use Rattle.")?;
+    let (krate, rest) = name.split_once('.')?;
+    let module = rest.strip_prefix("specs.")?;
     let module = module.split(['.', ' ']).next()?;
-    (module != "declared").then(|| format!("crates/{krate}/specs/{module}.antt"))
+    (krate != KIT && module != "declared").then(|| format!("crates/{krate}/specs/{module}.antt"))
 }
 
 /// These files and all that they import, with how to read one.

@@ -70,34 +70,50 @@ fn rows(page: &str) -> Vec<Row<'_>> {
     rows
 }
 
-/// The crates that `crates.txt` lists.
-pub fn listed_crates(list: &str) -> Vec<&str> {
-    let lines = list
-        .lines()
-        .map(|line| line.split('#').next().unwrap_or(""));
-    lines
-        .filter_map(|line| Some(line.split_once(':')?.0.trim()))
-        .collect()
+/// The crate of a line of `crates.txt`, and what it depends on. A static library has the word after its name.
+fn listed_crate(line: &str) -> Option<(&str, &str)> {
+    let (head, needs) = line.split('#').next()?.split_once(':')?;
+    Some((head.split_whitespace().next()?, needs))
 }
 
-/// How many crates `rt check` of one proves: itself and those of the list that it depends on.
+/// The crates that `crates.txt` lists.
+pub fn listed_crates(list: &str) -> Vec<&str> {
+    let lines = list.lines().filter_map(listed_crate);
+    lines.map(|(name, _)| name).collect()
+}
+
+/// How many crates a check of one with all below it proves: itself and those of the list that it depends on.
 pub fn proved_crates(list: &str, name: &str) -> Option<usize> {
     let listed = listed_crates(list);
-    let of = |line: &str| Some(line.split_once(':')?.0 == name);
-    let line = list.lines().find(|line| of(line) == Some(true))?;
-    let needs = line.split([' ', ':']).skip(1);
+    let mut lines = list.lines().filter_map(listed_crate);
+    let (_, needs) = lines.find(|(listed, _)| *listed == name)?;
+    let needs = needs.split_whitespace();
     Some(1 + needs.filter(|need| listed.contains(need)).count())
 }
 
-/// The rows that show a command `rt check NAME` with another number of crates than it proves.
-pub fn wrong_counts(list: &str, page: &str) -> Vec<String> {
-    let wrong = |line: &str| {
-        let shown = |word: &str| quoted(line).find_map(|text| text.strip_prefix(word));
-        let (name, count) = (shown("rt check ")?, shown("rt: ok, ")?);
-        let right = format!("{} crates proved", proved_crates(list, name).unwrap_or(0));
-        (count != right).then(|| format!("`rt check {name}`: {right}, not {count}"))
+/// The rows that show `rt check` in the folder of a crate, and where the number of crates is another than it proves.
+pub struct Counts {
+    pub rows: usize,
+    pub wrong: Vec<String>,
+}
+
+pub fn shown_counts(list: &str, page: &str) -> Counts {
+    let told = |line: &str| {
+        let begins = line.starts_with("| `rt check` in ");
+        let mut quoted = quoted(line).skip(1);
+        let name = quoted.next()?.strip_prefix("crates/")?.to_string();
+        let count = quoted.find(|text| text.ends_with(" crates"));
+        begins.then(|| (name, count.unwrap_or("no number").to_string()))
     };
-    page.lines().filter_map(wrong).collect()
+    let told: Vec<(String, String)> = page.lines().filter_map(told).collect();
+    let wrong = told.iter().filter_map(|(name, count)| {
+        let right = format!("{} crates", proved_crates(list, name).unwrap_or(0));
+        (*count != right).then(|| format!("`rt check` in `crates/{name}`: {right}, not {count}"))
+    });
+    Counts {
+        rows: told.len(),
+        wrong: wrong.collect(),
+    }
 }
 
 /// How the tables of crates differ from the list: each crate has one row, and each row a crate.

@@ -82,11 +82,22 @@ fn braces(text: &str, from: usize) -> Option<Range<usize>> {
     None
 }
 
+/// The word of the clause that begins where this text ends; a clause may be starred and have a name after its word.
+fn clause_word(before: &str) -> Option<&'static str> {
+    let mut last = before.split_whitespace().rev().take(2);
+    last.find_map(|stands| {
+        CLAUSES
+            .into_iter()
+            .find(|word| stands.trim_end_matches('*') == *word)
+    })
+}
+
 fn folded(text: &str) -> String {
     text.split_whitespace().collect::<Vec<_>>().join(" ")
 }
 
-/// The function that begins at a place of the source: a pair of braces is a clause after the word of one, and else the body.
+/// The function that begins at a place of the source: a pair of braces is a clause after the word of one,
+/// or after its name, and else the body.
 fn function(source: &Source, bare: &str, name: &str, start: usize) -> Option<Function> {
     let line = |at: usize| bare[..at].matches('\n').count();
     let mut clauses = Vec::new();
@@ -95,8 +106,7 @@ fn function(source: &Source, bare: &str, name: &str, start: usize) -> Option<Fun
     loop {
         let pair = braces(bare, from)?;
         let before = &bare[from..pair.start];
-        let mut words = CLAUSES.into_iter();
-        let Some(word) = words.find(|word| before.trim_end().ends_with(word)) else {
+        let Some(word) = clause_word(before) else {
             code.push_str(&bare[from..pair.end]);
             return Some(Function {
                 name: name.to_string(),

@@ -1,8 +1,8 @@
 //! The `use` lines of a file.
 
-/// `use PATH.{names}` or `use PATH as name`.
+/// `use PATH.{names}` or `use PATH as name`; of code, `use PATH::{names}`.
 pub struct Import {
-    /// The crate of the repository, where it is one: `rules` of `Rattle·rules.specs.Base`.
+    /// The crate of the repository, where it is one: `rules` of `Rattle.rules.specs.Base`.
     pub crate_name: Option<String>,
     /// The module in it: `specs.Base`.
     pub module: String,
@@ -40,21 +40,22 @@ fn taken(names: &str) -> Vec<(String, String)> {
         .collect()
 }
 
-/// The crate and the module of a path: `Rattle·rules·specs.specs.Base` and `Rattle·rules.specs.Base` are the same.
+/// The crate and the module of a path: `Rattle.rules.specs.Base`.
 fn parted(path: &str) -> (Option<String>, String) {
-    let Some(rest) = path.strip_prefix("Rattle·") else {
+    let Some(rest) = path.strip_prefix("Rattle.") else {
         return (None, path.to_string());
     };
-    let (head, module) = rest.split_once('.').unwrap_or((rest, ""));
-    let name = head.split('·').next().unwrap_or(head);
+    let (name, module) = rest.split_once('.').unwrap_or((rest, ""));
     (Some(name.to_string()), module.to_string())
 }
 
 fn read(statement: &str, first: usize, end: usize) -> Import {
     let body = statement.trim().trim_end_matches(';');
-    let (path, names) = match body.split_once(".{") {
-        Some((path, names)) => (path, Some(taken(names.trim_end_matches('}')))),
-        None => (body, None),
+    let (path, names) = match (body.split_once(".{"), body.split_once("::{")) {
+        (Some((path, names)), _) => (path, Some(taken(names.trim_end_matches('}')))),
+        // What code takes in a group is not looked at: a trait is used by its methods, without its name.
+        (None, Some((path, _))) => (path, None),
+        (None, None) => (body, None),
     };
     let (path, alias) = match path.split_once(" as ") {
         Some((path, alias)) => (path, Some(alias.trim().to_string())),

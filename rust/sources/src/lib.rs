@@ -26,7 +26,8 @@ mod words;
 pub use believed::{believed, closure, imported, listed};
 pub use declared::{declarations, Declaration};
 pub use documents::{
-    crates_not_told, documents, files_told, listed_crates, proved_crates, wrong_counts, Document,
+    crates_not_told, documents, files_told, listed_crates, proved_crates, shown_counts, Counts,
+    Document,
 };
 pub use edits::{edit_fault, edits};
 pub use functions::{functions, Clause, Function};
@@ -44,7 +45,16 @@ pub use words::{avoided_words, texts_for_people, Avoided, AVOIDED};
 const UMBRELLAS: [&str; 2] = ["opened", "computing"];
 
 /// Names that a `do` block uses without saying so.
-const SEQUENCING: [&str; 2] = ["_>>=_", "_>>_"];
+const SEQUENCING: [&str; 2] = ["◌>>=◌", "◌>>◌"];
+
+/// Where the arguments of an infix name stand.
+const PLACE: char = '◌';
+
+/// Folders that a build makes: cargo's, and that of a proved crate.
+const MADE: [&str; 2] = ["target", "out"];
+
+/// The files of a function's proof.
+const ANSWERS: [&str; 3] = ["/Answers.antt", "/Invariants.antt", "/Proof.antt"];
 
 /// One file below `crates/`.
 pub struct Source {
@@ -80,7 +90,7 @@ impl Source {
     }
 
     pub fn is_answer(&self) -> bool {
-        self.place.ends_with("/Proof.antt")
+        self.place.starts_with("proofs/") && ANSWERS.iter().any(|name| self.place.ends_with(name))
     }
 
     pub fn is_code(&self) -> bool {
@@ -91,6 +101,12 @@ impl Source {
 /// The repository's root.
 pub fn root() -> PathBuf {
     Path::new(env!("CARGO_MANIFEST_DIR")).join("../..")
+}
+
+/// Does a build make this folder?
+fn is_made(path: &Path) -> bool {
+    path.file_name()
+        .is_some_and(|name| MADE.iter().any(|made| name == *made))
 }
 
 /// What stands in a folder, by name.
@@ -105,7 +121,9 @@ fn entries(folder: &Path) -> Vec<PathBuf> {
 
 fn files(folder: &Path, found: &mut Vec<PathBuf>) {
     for path in entries(folder) {
-        if path.is_dir() {
+        if is_made(&path) {
+            continue;
+        } else if path.is_dir() {
             files(&path, found);
         } else {
             found.push(path);
@@ -113,7 +131,7 @@ fn files(folder: &Path, found: &mut Vec<PathBuf>) {
     }
 }
 
-/// Every file below `crates/`: its crate, its place there and its text.
+/// Every file below `crates/` but for what a check makes: its crate, its place there and its text.
 fn crate_files(wanted: impl Fn(&Path) -> bool) -> Vec<Source> {
     let top = root().join("crates");
     let mut found = Vec::new();
@@ -164,8 +182,8 @@ pub fn words(line: &str) -> impl Iterator<Item = &str> {
 
 /// The words by which a declared name is used: of an infix one, its signs.
 pub fn signs(name: &str) -> Vec<&str> {
-    let parts: Vec<_> = name.split('_').filter(|part| !part.is_empty()).collect();
-    let infix = name.starts_with('_') || name.ends_with('_');
+    let parts: Vec<_> = name.split(PLACE).filter(|part| !part.is_empty()).collect();
+    let infix = name.starts_with(PLACE) || name.ends_with(PLACE);
     if infix && !parts.is_empty() {
         parts
     } else {
@@ -219,9 +237,13 @@ impl Uses {
         let whole = self.has(name, declared, but);
         let by_signs = || {
             signs(name).iter().all(|sign| {
-                [sign.to_string(), format!("{sign}_"), format!("_{sign}")]
-                    .iter()
-                    .any(|word| self.has(word, declared, but))
+                [
+                    sign.to_string(),
+                    format!("{sign}{PLACE}"),
+                    format!("{PLACE}{sign}"),
+                ]
+                .iter()
+                .any(|word| self.has(word, declared, but))
             })
         };
         let in_block = || SEQUENCING.contains(&name) && self.has("do", declared, but);

@@ -1,16 +1,13 @@
 //! Names in the documents that look like a path of the repository, or like an item of a crate or a type: is there such a one?
 
 use crate::documents::quoted;
-use crate::{entries, root, Document};
+use crate::{entries, is_made, root, Document, MADE};
 use std::collections::{BTreeMap, BTreeSet};
 use std::fs;
 use std::path::Path;
 
 /// A name with one of these endings is a file's.
 const ENDINGS: [&str; 5] = [".rt", ".antt", ".rs", ".md", ".h"];
-
-/// Folders that a build makes.
-const MADE: &str = "target";
 
 /// The words that declare an item.
 const DECLARING: [&str; 6] = ["fn", "const", "struct", "enum", "mod", "type"];
@@ -114,7 +111,7 @@ impl Names {
                 .expect("a name")
                 .to_string_lossy()
                 .into_owned();
-            if name == MADE || name == ".git" {
+            if is_made(&path) || name == ".git" {
                 continue;
             }
             let place = format!("{above}{name}");
@@ -142,7 +139,7 @@ impl Names {
     fn looks_like_path(&self, name: &str) -> bool {
         let (first, _) = name.split_once('/').unwrap_or_default();
         let file = ENDINGS.iter().any(|end| name.ends_with(end));
-        (file || self.folders.contains(first)) && !name.split('/').any(|part| part == MADE)
+        (file || self.folders.contains(first)) && !name.split('/').any(|part| MADE.contains(&part))
     }
 
     /// A name that looks like something of the repository, which is not there.

@@ -54,15 +54,10 @@ fn comments(source: &Source) -> Vec<Comment> {
 
 /// The declaration that begins at the next line that is not blank; else the innermost one that the line stands in.
 fn owner(source: &Source, declared: &[Declaration], comment: &Comment) -> Option<usize> {
-    let lines = source.text.lines().enumerate().skip(comment.end);
-    let next = lines.clone().find(|(_, line)| !line.trim().is_empty());
-    // What a function is marked with stands between its comment and itself.
-    let next = match next {
-        Some((_, line)) if line.trim_start().starts_with("#[") => {
-            lines.skip(1).find(|(_, line)| !line.trim().is_empty())
-        }
-        other => other,
-    };
+    let mut lines = source.text.lines().enumerate().skip(comment.end);
+    // What a function or a type is marked with stands between its comment and itself.
+    let marks = |line: &str| line.trim().is_empty() || line.trim_start().starts_with("#[");
+    let next = lines.find(|(_, line)| !marks(line));
     let begins = next.and_then(|(number, _)| declared.iter().position(|one| one.first == number));
     begins.or_else(|| {
         let number = comment.first;

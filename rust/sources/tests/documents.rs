@@ -2,7 +2,7 @@
 
 use sources::{
     believed, closure, crates_not_told, documents, expect_none, files_told, imported, listed,
-    listed_crates, proved_crates, root, sources, wrong_counts, Document, Names,
+    listed_crates, proved_crates, root, shown_counts, sources, Document, Names,
 };
 use std::collections::BTreeSet;
 use std::process::Command;
@@ -65,8 +65,12 @@ fn every_crate_has_its_row() {
 #[test]
 fn counts_of_crates() {
     let list = Document::of("crates.txt").text;
-    let wrong = wrong_counts(&list, &document("ASSURANCE.md"));
-    expect_none(&wrong, "docs/ASSURANCE.md has another number of crates");
+    let told = shown_counts(&list, &document("ASSURANCE.md"));
+    expect_none(
+        &told.wrong,
+        "docs/ASSURANCE.md has another number of crates",
+    );
+    assert_eq!(told.rows, 3, "docs/ASSURANCE.md shows these checks");
     let below = proved_crates(&list, "script").expect("the program") - 1;
     let told = format!("everything below it, {below} crates");
     let page = Document::of("README.md").text;
@@ -101,23 +105,26 @@ fn what_must_be_believed() {
 /// The closure goes over imports of definitions, in the own crate and in others, and not over types of code.
 #[test]
 fn what_claims_import() {
-    let own = "use Rattle·rules·specs.specs.State.{Term}";
+    let some = "use Rattle.rules.specs.State.{Term}";
     assert_eq!(
-        imported(own).as_deref(),
+        imported(some).as_deref(),
         Some("crates/rules/specs/State.antt")
     );
-    let other = "use Rattle·rules.specs.Syntax as Syntax";
+    let whole = "pub use Rattle.rules.specs.Syntax as Syntax";
     assert_eq!(
-        imported(other).as_deref(),
+        imported(whole).as_deref(),
         Some("crates/rules/specs/Syntax.antt")
     );
-    assert_eq!(
-        imported("use Rattle·tables.specs.declared.Expr.{Expr}"),
-        None
-    );
-    assert_eq!(imported("use mathlib.Core.List.{List}"), None);
+    for none in [
+        "use Rattle.tables.specs.declared.Expr.{Expr}",
+        "use Rattle.rules.proofs.Lists.{T_true}",
+        "use Rattle.std.specs.Prelude.{List}",
+        "use Prim.Native.String.{String}",
+    ] {
+        assert_eq!(imported(none), None, "{none}");
+    }
     let read = |path: &str| match path {
-        "crates/one/specs/Claim.antt" => "use Rattle·two.specs.Base.{a}\n".to_string(),
+        "crates/one/specs/Claim.antt" => "use Rattle.two.specs.Base.{a}\n".to_string(),
         _ => String::new(),
     };
     let files = closure(&["crates/one/specs/Claim.antt"], read);
@@ -214,7 +221,7 @@ fn a_lost_path_is_found() {
         false,
     );
     lost_of(
-        "target/lost.md docs/target/lost and/or PREFIX/docs lost",
+        "target/lost.md docs/target/lost crates/out/lost.md and/or PREFIX/docs lost",
         false,
     );
     let blocks = "```\n`lost.md`\n```\n\n    `lost.md`\n\nlost.md\n";
@@ -235,8 +242,8 @@ const TABLES: &str = "# `one`: a crate\n\n| Crate | Holds |\n|---|---|\n| `one` 
 
 #[test]
 fn a_crate_without_its_row_is_found() {
-    let list = "# crates\none:\ntwo: one # more\n";
-    assert_eq!(listed_crates(list), ["one", "two"]);
+    let list = "# crates\none:\ntwo: one # more\nthree staticlib: one two\n";
+    assert_eq!(listed_crates(list), ["one", "two", "three"]);
     assert_eq!(crates_not_told(&["one"], TABLES), [""; 0]);
     assert_eq!(
         crates_not_told(&["one", "two"], TABLES),
@@ -255,12 +262,18 @@ fn a_wrong_count_is_found() {
     let list = "one:\ntwo: one io\n";
     let counts = ["one", "two", "io"].map(|name| proved_crates(list, name));
     assert_eq!(counts, [Some(1), Some(2), None]);
-    let row = |count: &str| format!("| `rt check two` | it | `rt: ok, {count} crates proved` |\n");
-    assert_eq!(wrong_counts(list, &row("2")), [""; 0]);
+    let row = |count: &str| format!("| `rt check` in `crates/two` | it{count} | `ok` |\n");
+    let wrong = |count: &str| shown_counts(list, &row(count)).wrong;
+    assert_eq!(wrong(": `2 crates`"), [""; 0]);
     assert_eq!(
-        wrong_counts(list, &row("3")),
-        ["`rt check two`: 2 crates proved, not 3 crates proved"]
+        wrong(": `3 crates`"),
+        ["`rt check` in `crates/two`: 2 crates, not 3 crates"]
     );
+    assert_eq!(
+        wrong(""),
+        ["`rt check` in `crates/two`: 2 crates, not no number"]
+    );
+    assert_eq!(shown_counts(list, &row("").repeat(2)).rows, 2);
 }
 
 #[test]

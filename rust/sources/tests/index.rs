@@ -71,8 +71,8 @@ fn sentences_of_a_paper() {
 #[test]
 fn quotes_lead_to_laws_and_code() {
     let specs = "-- head\n\n-- \"A line is\n-- long.\" as \"x\"\npub isLong : A\nisLong = b\n\n-- no quote\npub over : A\nover = isLong\n";
-    let proofs = "-- laws\nuse Rattle·one.specs.Texts.{isLong}\n\npub long-law : isLong\nlong-law = refl\n\npub other : A\nother = isLong\n";
-    let code = "// code\nghost use Rattle·one.specs.Texts.{over};\n\n// \"short\"\nfn f(x: u8)\n    ensures { over }\n{\n    x\n}\n";
+    let proofs = "-- laws\nuse Rattle.one.specs.Texts.{isLong}\n\npub long-law : isLong\nlong-law = refl\n\npub other : A\nother = isLong\n";
+    let code = "// code\nghost use Rattle.one.specs.Texts.{over};\n\n// \"short\"\nfn f(x: u8)\n    ensures { over }\n{\n    x\n}\n";
     let files = || {
         vec![
             made("specs/Texts.antt", specs),
@@ -115,7 +115,7 @@ fn row_of(name: &str, other: Source) -> String {
 
 #[test]
 fn a_function_does_not_hide_the_definition_of_its_name() {
-    let code = "// code\nghost use Rattle·one.specs.Texts.{add};\n\nfn add(x: u8)\n    ensures { add }\n{\n    x\n}\n";
+    let code = "// code\nghost use Rattle.one.specs.Texts.{add};\n\nfn add(x: u8)\n    ensures { add }\n{\n    x\n}\n";
     assert_eq!(
         row_of("add", made("src/lib.rt", code)),
         "`add` (crates/one/specs/Texts.antt:4); code: `one::add` (crates/one/src/lib.rt:4)"
@@ -131,7 +131,7 @@ fn what_has_its_name_comes_first() {
         law("long-law", "long ≡ kept"),
     ];
     let laws = format!(
-        "-- laws\nuse Rattle·one.specs.Texts.{{long}}\n\n{}",
+        "-- laws\nuse Rattle.one.specs.Texts.{{long}}\n\n{}",
         laws.concat()
     );
     let row = row_of("long", made("proofs/Laws.antt", &laws));
@@ -143,7 +143,7 @@ fn what_has_its_name_comes_first() {
 /// Is a law with this import and statement about the definition `long`?
 fn is_about_long(import: &str, statement: &str) -> bool {
     let law = format!(
-        "-- laws\nuse Rattle·one.specs.Texts{import}\n\npub law : {statement}\nlaw = refl\n"
+        "-- laws\nuse Rattle.one.specs.Texts{import}\n\npub law : {statement}\nlaw = refl\n"
     );
     row_of("long", made("proofs/Laws.antt", &law))
         .contains("laws: `law` (crates/one/proofs/Laws.antt:4)")
@@ -155,7 +155,7 @@ fn a_module_taken_whole_gives_no_bare_name() {
         ("Texts.long ≡ b", true),
         ("f (Texts.long)", true),
         ("long ≡ b", false),
-        ("r .long ≡ b", false),
+        ("r.long ≡ b", false),
         ("Other.long ≡ b", false),
     ] {
         assert_eq!(is_about_long(" as Texts", statement), about, "{statement}");
@@ -167,7 +167,7 @@ fn a_part_or_a_variable_is_no_use() {
     for (statement, about) in [
         ("long ≡ b", true),
         ("record { x = long } ≡ b", true),
-        ("r .long ≡ b", false),
+        ("r.long ≡ b", false),
         ("(long : A) → b", false),
         ("record { long = b; long = c } ≡ b", false),
     ] {
@@ -181,7 +181,7 @@ fn quotes_of_proofs_stand_apart() {
     let answer = "-- \"no paper has this\"\n";
     let files = vec![
         made("proofs/Laws.antt", proofs),
-        made("proofs/f/Proof.antt", answer),
+        made("proofs/f/Answers.antt", answer),
     ];
     let index = Index::of(files, vec![Paper::of("paper", PAPER)]);
     assert_eq!(index.faults, Vec::<String>::new());

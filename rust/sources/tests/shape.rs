@@ -38,7 +38,7 @@ fn every_function_is_read() {
         );
         assert_eq!(
             clauses,
-            begins(&["requires ", "ensures "]),
+            begins(&["requires ", "requires* ", "ensures ", "ensures* "]),
             "clauses of {path}"
         );
     }
@@ -60,7 +60,7 @@ fn a_long_file_is_found() {
 /// A function of so many lines, with braces in comments and quoted bytes, and one after it.
 fn function(lines: usize) -> String {
     let body = "    put(b'{', b\"{\"); // {\n".repeat(lines - 4);
-    format!("// code\nfn f<'a>(x: &'a u8)\n    requires {{ ⌜ {{A}} \"}}\" ⌝ }}\n{{\n{body}}}\n\nfn g() {{}}\n")
+    format!("// code\nfn f<'a>(x: &'a u8)\n    requires {{ {{A}} \"}}\" }}\n{{\n{body}}}\n\nfn g() {{}}\n")
 }
 
 #[test]
@@ -75,8 +75,8 @@ fn a_long_function_is_found() {
 
 /// A function with a clause of so many characters, over two lines.
 fn contract(characters: usize) -> String {
-    let fact = "≤".repeat(characters - "{ λ r. }".chars().count() - 1);
-    format!("// code\npub fn f(x: u8) -> u8\n    requires {{ x }}\n    ensures {{ λ r.\n        {fact} }}\n{{\n    x\n}}\n")
+    let fact = "≤".repeat(characters - "{ }".chars().count() - 1);
+    format!("// code\npub fn f(x: u8) -> u8\n    requires {{ x }}\n    ensures ok {{\n        {fact} }}\n{{\n    x\n}}\n")
 }
 
 #[test]

@@ -33,7 +33,7 @@ fn every_import_is_used() {
 #[test]
 fn a_law_that_only_cites_itself_is_found() {
     let laws = "-- laws\npub kept : A\nkept = refl\n\npub lost : A → A\nlost (suc n) = lost n\n";
-    let cites = "-- more\nuse Rattle·one.proofs.Laws.{kept, lost}\n\npub done : A\ndone = kept\n";
+    let cites = "-- more\nuse Rattle.one.proofs.Laws.{kept, lost}\n\npub done : A\ndone = kept\n";
     let files = [
         made("one", "proofs/Laws.antt", laws),
         made("two", "proofs/More.antt", cites),
@@ -51,7 +51,7 @@ fn a_law_that_only_cites_itself_is_found() {
 #[test]
 fn a_name_of_another_module_is_no_use() {
     let laws = "-- laws\npub same : A\nsame = refl\n";
-    let other = "-- more\nuse lib.Seq.{same}\n\npub done : A\ndone = same\n";
+    let other = "-- more\nuse Rattle.std.proofs.Seq.{same}\n\npub done : A\ndone = same\n";
     let files = [
         made("one", "proofs/Laws.antt", laws),
         made("two", "proofs/More.antt", other),
@@ -59,6 +59,15 @@ fn a_name_of_another_module_is_no_use() {
     assert_eq!(
         unused_declarations(&files, "`done`"),
         ["crates/one/proofs/Laws.antt:2: same"]
+    );
+}
+
+#[test]
+fn a_name_that_code_gives_and_does_not_use_is_found() {
+    let code = "// code\nuse one::{Kind as Sort, Most};\nuse one::Kind as Line;\nuse one::State as Of;\n\nfn f(x: Of) {}\n";
+    assert_eq!(
+        unused_imports(&[made("two", "src/lib.rt", code)]),
+        ["crates/two/src/lib.rt: Line of one::Kind"]
     );
 }
 

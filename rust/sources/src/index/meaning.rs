@@ -24,7 +24,7 @@ impl Names {
             }
             match before.strip_suffix('.') {
                 None => self.bare.get(word).copied(),
-                // `A.name` is a name of the module A; `r .name`, a part of a record.
+                // `A.name` is a name of the module A; `r.name`, a part of a record.
                 Some(module) => {
                     let module = words(module).last().filter(|name| module.ends_with(name))?;
                     let name = (module.to_string(), word.to_string());

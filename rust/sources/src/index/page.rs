@@ -8,8 +8,8 @@ const NAMED: usize = 3;
 
 const HEAD: &str = "# Index: sentence, definition, law, code\n\n\
 Below each sentence of the papers stand the definitions and the code whose comments quote it, with the laws and the code about each \
-definition. The proof that a function keeps its contract is `proofs/FUNCTION/Proof.antt` of its crate, that of a function in the \
-module `src/MODULE.rt` is `proofs/MODULE/FUNCTION/Proof.antt`.\n";
+definition. What is written of the proof that a function keeps its contract is in the folder `proofs/FUNCTION` of its crate, for a function in the \
+module `src/MODULE.rt` in `proofs/MODULE/FUNCTION`.\n";
 
 impl Index {
     /// A declaration with the line at which it is to be looked for; of none, the file.
