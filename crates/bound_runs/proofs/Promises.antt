@@ -155,8 +155,8 @@ pub enough-steps : EnoughSteps
 enough-steps t e k l q = enough t e k l q
 
 -- no more frames are open after any step
-pub frames_enough : FramesEnough
-frames_enough t e items r k =
+pub frames-enough : FramesEnough
+frames-enough t e items r k =
     subst (λ items. (R : Run whole_heap (program items) k) (i : ℕ) → i ≤ R.steps → suc (depth (R.state i)) ≤ (bound_text t).frames)
     (accepted-inj (sym (given t e).is_read ∙ r)) (open-frames t e k)
 

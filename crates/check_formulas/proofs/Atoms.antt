@@ -7,8 +7,6 @@ use Prim.Native.Nat.{ℕ, suc, ◌+◌, ◌-◌, ◌≤◌, ◌<◌}
 use native.Mathlib.Omega.{arith}
 use lib.Dec.{eqb}
 use borrow.Author.Tests.{lt-ltb, le-ltb}
-use types.Run.{OneOf, miss}
-use denote.Enum.Declared.{tag_of}
 use Rattle.rules.specs.Base.{Try, ok, no, ◌>>=◌, ◌>>◌, check}
 use Rattle.rules.specs.Limits.{most_permissions}
 use Rattle.rules.specs.Answers.{Refusal, not_shown}
@@ -25,7 +23,6 @@ use Rattle.check_state.specs.Questions.{Bytes}
 use Rattle.check_entries.specs.Entries.{LeftFits, left_of}
 use Rattle.check_entries.proofs.Halves.{all_left}
 use Rattle.check_entailment.specs.declared.Answer.{Answer}
-use Rattle.check_entailment.specs.contracts.Answer.{the_type}
 use Rattle.check_entailment.specs.Answers.{answered, ShowsAtom, Adds, AddsAtom}
 use Rattle.check_formulas.specs.Formulas.{actual_atom, formula, Shows, Showing}
 

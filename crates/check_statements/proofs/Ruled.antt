@@ -8,8 +8,6 @@ use native.Mathlib.Omega.{arith}
 use lib.Dec.{eqb}
 use lib.ListN.{get_or, set}
 use borrow.Author.Tests.{eq-eqb, ne_eqb, eqb-true, lt-ltb}
-use types.Run.{OneOf}
-use denote.Enum.Declared.{tag_of}
 use Rattle.rules.specs.Base.{Try, ok, no, ◌>>=◌, ◌>>◌, check, or_else}
 use Rattle.rules.specs.Limits.{most_permissions}
 use Rattle.rules.specs.Answers.{Refusal, unresolved, no_permission, not_shown}
@@ -25,7 +23,6 @@ use Rattle.check_equality.specs.Links.{rel_of}
 use Rattle.check_equality.proofs.Keys.{same_key, of-null}
 use Rattle.check_entailment.specs.declared.Answer.{Answer}
 use Rattle.check_state.specs.declared.Resolved.{Resolved}
-use Rattle.check_entailment.specs.contracts.Answer.{the_type}
 use Rattle.check_state.specs.States.{Wf, state_of, entries, variable_at, field_at, kind_at, permit_of, permission_at, permissions_of, is_path_at}
 use Rattle.check_state.specs.Questions.{FirstPlace, Bytes, entry_test}
 use Rattle.check_successors.specs.Successors.{term_or}

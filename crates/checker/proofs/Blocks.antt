@@ -7,8 +7,6 @@ use mathlib.Core.Option.{none, some}
 use Prim.Native.Nat.{ℕ, suc, ◌+◌, ◌-◌, ◌≤◌, ◌<◌}
 use native.Mathlib.Omega.{arith}
 use borrow.Author.Tests.{ne_eqb}
-use types.Run.{OneOf, miss}
-use denote.Enum.Declared.{tag_of}
 use Rattle.rules.specs.Limits.{most_branches}
 use Rattle.rules.specs.Grammar.{Return, If, Loop, statement_number, is_closing_number, GoesOn}
 use Rattle.rules.specs.Answers as Answers
@@ -33,7 +31,6 @@ use Rattle.check_rows.specs.Rows.{RowIs, branches, condition_at, relation_at, bo
 use Rattle.checker.specs.Checked.{outcome, verdict_of, refusal_of, Nests, Stands, verdict_from, stopped_at, onward, passed_at, Went, Ran, Passed, Returns, Ended, Turned, Closed, BodyClosed}
 use Rattle.tables.proofs.Statements.{return-means, if-means, else-means, join-means, loop-means, again-means, end-means}
 use Rattle.checker.proofs.Stepping.{closer, step-verdict, step-nests, return-verdict, return-nests, after-return, if-verdict, if-nests, else-verdict, else-out, else-alone, else-nests, join-verdict, join-out, join-alone, join-nests, loop-verdict, loop-nests, again-verdict, again-out, again_alone, again-nests, end-inside, end-verdict, at-line}
-use Rattle.checker.specs.contracts.Verdict.{the_type as verdict-type}
 
 abbrev Result : Type 0
 Result = Answers.Verdict (Unit {0})

@@ -10,7 +10,7 @@ use Rattle.rules.specs.Limits.{work_bytes, bounds_bytes}
 use Rattle.rules.specs.Calls.{run_text, bound_text}
 use Rattle.rules.specs.Areas.{packed, words_bytes, result_bytes, bound_bytes, bound_call, number_in}
 use Rattle.tables.specs.Decode.{word_at}
-use Rattle.bound_runs.proofs.Promises.{never_passed, enough-steps, frames_enough, frames-fit, bound-small, frames_small}
+use Rattle.bound_runs.proofs.Promises.{never_passed, enough-steps, frames-enough, frames-fit, bound-small, frames_small}
 use Rattle.widths.proofs.Words.{word_first, word_on}
 use Rattle.widths.proofs.Returned.{number-packed}
 use Rattle.station.specs.Demand.{Lent, run_over}
@@ -60,7 +60,7 @@ module _ (t work bounds : List ℕ) (m : length work ≡ work_bytes) (n : length
           record {
             never_passed = rw (bound-word, run-word) (never_passed t given l.steps);
             enough = λ k q. enough-steps t given l.steps (rw bound-word at k) (sym run-number ∙ q);
-            frames_enough = λ items r R i h. rw frames-word (frames_enough t given items r l.steps R i h);
+            frames_enough = λ items r R i h. rw frames-word (frames-enough t given items r l.steps R i h);
             frames-fit = λ k q. frames-fit t given (rw frames-word at k) l.steps (sym run-number ∙ q);
           }
 

@@ -1,5 +1,5 @@
 -- `count`: what its parts leave in the results area, and what it returns and leaves.
-use Rattle.std.specs.Borrow.{Bor}
+use Rattle.std.specs.Borrow.{Bor, MutBor}
 use Rattle.std.specs.Prelude.{cond, List, [], ◌∷◌, ◌++◌, ℕ, ◌*◌, ltb, take, drop, replicate}
 use Rattle.rules.specs.Limits.{script_bytes}
 use Rattle.rules.specs.Joint.{room_of}
@@ -18,8 +18,8 @@ put_part area i part = take (i * script_bytes) area ++ (part ++ drop script_byte
 
 -- WHAT THE CALL RETURNS, and leaves in each area
 abbrev pub CountLeaves :
-    ℕ → ℕ → Bor (List ℕ) → Bor (List ℕ) → Bor (List ℕ) → Bor (List ℕ) → Bor (List ℕ) → ℕ → ℕ → ℕ → ℕ → Bor (List ℕ) → ℕ → Bor (List ℕ) →
-    Bor (List ℕ) → Type 0
+    ℕ → ℕ → Bor (List ℕ) → Bor (List ℕ) → Bor (List ℕ) → Bor (List ℕ) → MutBor (List ℕ) → ℕ → ℕ → ℕ → ℕ → MutBor (List ℕ) → ℕ →
+    MutBor (List ℕ) → MutBor (List ℕ) → Type 0
 CountLeaves n rounds t₁ t₂ t₃ t₄ work k₁ k₂ k₃ k₄ results r work' results' =
     RunLeaves
     (count_call n rounds (t₁.now ∷ t₂.now ∷ t₃.now ∷ t₄.now ∷ []) work.now (k₁ ∷ k₂ ∷ k₃ ∷ k₄ ∷ []) results.now)

@@ -11,7 +11,8 @@ use Rattle.rules.specs.Grammar.{is_computing}
 use Rattle.rules.specs.Syntax.{Formula, assign, assert, release, simple, join}
 use Rattle.tables.specs.declared.Operands.{Operands}
 use Rattle.tables.specs.Layout.{rows_at, methods_at, classes_at, places_at, atoms_at, most_names}
-use Rattle.tables.specs.Decode.{byte_at, half_at, expr_at, left_at, right_at, atom_at, atoms_from, atom_place, if_at, loop_at, row_place, kind_at, operands_at, formula_of, stmt_of, row_at, requires_first_at, requires_count_at, ensures_first_at, ensures_count_at, requires_at, ensures_at, method_place, first_row_at, method_at, class_place, places_place, field_count_at, field_name_at, field_at, class_at}
+use Rattle.tables.specs.Decode.{byte_at, half_at, expr_at, left_at, right_at, atom_at, atoms_from, atom_place, if_at, loop_at, row_place, kind_at, operands_at, formula_of, stmt_of, row_at, requires_first_at, requires_count_at, ensures_first_at, ensures_count_at, requires_at, ensures_at}
+use Rattle.tables.specs.Decode.{method_place, first_row_at, method_at, class_place, places_place, field_count_at, field_name_at, field_at, class_at}
 use Rattle.tables.specs.Tables.{AtomFitsAt, AtomsFit, Declared, OperandsFit, FormulasFit, ClassFits, place_at}
 use Rattle.tables.specs.Stores.{Kept}
 use Rattle.tables.proofs.BytesRead.{half-kept}

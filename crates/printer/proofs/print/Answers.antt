@@ -40,9 +40,9 @@ prints c x = record { high = x.high; are = x.are ∙ printed-answers _ _ _ _ c }
 pub put_answers-requires : goal.put_answers-requires
 put_answers-requires c =
     let x = c.check-checked.ensures.0 ∙ ap (λ (x : Checked). x.returned) (check-is _ _ c.requires.0) in
-    (c.requires.2, c.trial-ran.auto.results.1.1.0 ∙ c.requires.1, read-unless _ _ x)
+    (c.requires.2, c.trial-ran.auto.results ∙ c.requires.1, read-unless _ _ x)
 
 pub returns : goal.returns
 returns c =
-    let k = called _ _ _ c.requires.0 (c.check-checked.auto.work.1.0 ∙ c.requires.0) c.requires.1 c.check-checked.ensures.0 c.trial-ran.ensures.0 c.trial-ran.ensures.2 in
+    let k = called _ _ _ c.requires.0 (c.check-checked.auto.work ∙ c.requires.0) c.requires.1 c.check-checked.ensures.0 c.trial-ran.ensures.0 c.trial-ran.ensures.2 in
     prints k c.put_answers.ensures

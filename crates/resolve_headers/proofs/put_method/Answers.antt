@@ -76,4 +76,5 @@ returns c =
     let last : c.args.p.above.classes ≡ suc (c.args.p.above.classes - 1) = omega (arith, (room.method refl).0) in
     let good = method-test c.args.text.now c.args.work.now c.args.p ws _ c.span_after-parameter.result c.method_row-m.ensures name c.requires.2 c.may_add_method.ensures in
     put_on c.args.text.now c.args.work.now c.args.p c.args.r Method refl c.may_add_method.result good (c.if-not-may_add_method.false) (at-end (c.put_block.ensures ∙ ap (λ u. put_block c.args.text.now u c.name_at-class.result
-    c.method_row-m.result c.span_after-parameter.result) (c.put_method_row.ensures ∙ (λ j. put_method c.args.work.now (c.after.ensures j) c.args.p.rows))) (c.moved.ensures ∙ (λ j. moved c.args.p (c.in_method.ensures j) (c.with_method.ensures j) c.args.p.main)) (method-line c.args.text.now c.args.work.now c.args.p ws (c.args.p.above.classes - 1) c.name_at-class.result c.span_after-parameter.result c.method_row-m.result c.requires.0 room c.requires.4 last c.name_at-class.ensures.0 c.name_at-class.ensures.1 c.method_row-m.ensures name s))
+    c.method_row-m.result c.span_after-parameter.result) (c.put_method_row.ensures ∙ (λ j. put_method c.args.work.now (c.after.ensures j) c.args.p.rows))) (c.moved.ensures ∙ (λ j. moved c.args.p (c.in_method.ensures j) (c.with_method.ensures j) c.args.p.main))
+    (method-line c.args.text.now c.args.work.now c.args.p ws (c.args.p.above.classes - 1) c.name_at-class.result c.span_after-parameter.result c.method_row-m.result c.requires.0 room c.requires.4 last c.name_at-class.ensures.0 c.name_at-class.ensures.1 c.method_row-m.ensures name s))

@@ -32,8 +32,15 @@ with_place-requires t c =
 
 pub put_mains-e-requires : goal.put_mains-e-requires
 put_mains-e-requires t c =
-    let m = places_in c.args.m in
-    (omega (arith, c.if-left-eq0.false), (c.with_place.ensures.known, omega (arith, c.requires.1, c.if-left-eq0.false, c.with_place.ensures.count), room-on m (places_in c.with_place.result) _ c.loop-place.place c.loop-place-test.true c.with_place.ensures.places (omega (arith, c.requires.2, c.loop-place.invariant.1.size, ap room (all_after m c.args.left c.if-left-eq0.false))) c.loop-place.invariant.1))
+    let m = places_in c.args.m in (
+      omega (arith, c.if-left-eq0.false),
+      (
+        c.with_place.ensures.known,
+        omega (arith, c.requires.1, c.if-left-eq0.false, c.with_place.ensures.count),
+        room-on m (places_in c.with_place.result) _ c.loop-place.place c.loop-place-test.true c.with_place.ensures.places
+            (omega (arith, c.requires.2, c.loop-place.invariant.1.size, ap room (all_after m c.args.left c.if-left-eq0.false))) c.loop-place.invariant.1,
+      ),
+    )
 
 pub loop-place-smaller : goal.loop-place-smaller
 loop-place-smaller t c =

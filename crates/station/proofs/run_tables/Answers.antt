@@ -18,7 +18,7 @@ pub shape_of-work : goal.shape_of-work
 shape_of-work c = c.run-r.ensures.tables.size
 
 pub shape_of-results : goal.shape_of-results
-shape_of-results c = c.put_results.auto.results.1.0
+shape_of-results c = c.put_results.auto.results
 
 pub returns : goal.returns
 unfolding room_of

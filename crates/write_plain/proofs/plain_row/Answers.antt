@@ -38,6 +38,15 @@ returns-in-24 c = rw c.in-24.is c.shut_row.ensures
 pub returns-in_default : goal.returns-in_default
 unfolding plain_row plain_judged is_computing statement_number
 returns-in_default c =
-    rw
-    (ne_eqb _ 8 c.in_default.in_default-own.rest.0.0.0.0.0.0.0.1, ne_eqb _ 10 c.in_default.in_default-own.rest.0.0.0.0.0.0.1, ne_eqb _ 11 c.in_default.in_default-own.rest.0.0.0.0.0.1, ne_eqb _ 12 c.in_default.in_default-own.rest.0.0.0.0.1, ne_eqb _ 19 c.in_default.in_default-own.rest.0.0.0.1, ne_eqb _ 20 c.in_default.in_default-own.rest.0.0.1, ne_eqb _ 23 c.in_default.in_default-own.rest.0.1, ne_eqb _ 24 c.in_default.in_default-own.rest.1, ← c.row.ensures)
+    rw (
+      ne_eqb _ 8 c.in_default.in_default-own.rest.0.0.0.0.0.0.0.1,
+      ne_eqb _ 10 c.in_default.in_default-own.rest.0.0.0.0.0.0.1,
+      ne_eqb _ 11 c.in_default.in_default-own.rest.0.0.0.0.0.1,
+      ne_eqb _ 12 c.in_default.in_default-own.rest.0.0.0.0.1,
+      ne_eqb _ 19 c.in_default.in_default-own.rest.0.0.0.1,
+      ne_eqb _ 20 c.in_default.in_default-own.rest.0.0.1,
+      ne_eqb _ 23 c.in_default.in_default-own.rest.0.1,
+      ne_eqb _ 24 c.in_default.in_default-own.rest.1,
+      ← c.row.ensures,
+    )
     c.row_if.ensures

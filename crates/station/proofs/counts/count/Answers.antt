@@ -28,21 +28,21 @@ count_part-requires-2 c =
     let q = asked c.args.scripts c.args.rounds c.args.text1.now c.args.text2.now c.args.text3.now c.args.text4.now
     c.args.share1 c.args.share2 c.args.share3 c.args.share4 in
     let m = sym c.fit.ensures ∙ c.if-not-fit.false in
-    ((omega arith, share-fits-heap q c.args.work.now c.args.results.now m (sym c.shares_fit.ensures ∙ c.if-not-shares_fit.false) 1 (omega arith)), c.count_part.ensures.1, c.count_part.auto.results.1.1.1.1.0 ∙ (fit-lengths c.args.work.now c.args.results.now m).1)
+    ((omega arith, share-fits-heap q c.args.work.now c.args.results.now m (sym c.shares_fit.ensures ∙ c.if-not-shares_fit.false) 1 (omega arith)), c.count_part.ensures.1, c.count_part.auto.results ∙ (fit-lengths c.args.work.now c.args.results.now m).1)
 
 pub count_part-requires-3 : goal.count_part-requires-3
 count_part-requires-3 c =
     let q = asked c.args.scripts c.args.rounds c.args.text1.now c.args.text2.now c.args.text3.now c.args.text4.now
     c.args.share1 c.args.share2 c.args.share3 c.args.share4 in
     let m = sym c.fit.ensures ∙ c.if-not-fit.false in
-    ((omega arith, share-fits-heap q c.args.work.now c.args.results.now m (sym c.shares_fit.ensures ∙ c.if-not-shares_fit.false) 2 (omega arith)), c.count_part-2.ensures.1, c.count_part-2.auto.results.1.1.1.1.0 ∙ (c.count_part.auto.results.1.1.1.1.0 ∙ (fit-lengths c.args.work.now c.args.results.now m).1))
+    ((omega arith, share-fits-heap q c.args.work.now c.args.results.now m (sym c.shares_fit.ensures ∙ c.if-not-shares_fit.false) 2 (omega arith)), c.count_part-2.ensures.1, c.count_part-2.auto.results ∙ (c.count_part.auto.results ∙ (fit-lengths c.args.work.now c.args.results.now m).1))
 
 pub count_part-requires-4 : goal.count_part-requires-4
 count_part-requires-4 c =
     let q = asked c.args.scripts c.args.rounds c.args.text1.now c.args.text2.now c.args.text3.now c.args.text4.now
     c.args.share1 c.args.share2 c.args.share3 c.args.share4 in
     let m = sym c.fit.ensures ∙ c.if-not-fit.false in
-    ((omega arith, share-fits-heap q c.args.work.now c.args.results.now m (sym c.shares_fit.ensures ∙ c.if-not-shares_fit.false) 3 (omega arith)), c.count_part-3.ensures.1, c.count_part-3.auto.results.1.1.1.1.0 ∙ (c.count_part-2.auto.results.1.1.1.1.0 ∙ (c.count_part.auto.results.1.1.1.1.0 ∙ (fit-lengths c.args.work.now c.args.results.now m).1)))
+    ((omega arith, share-fits-heap q c.args.work.now c.args.results.now m (sym c.shares_fit.ensures ∙ c.if-not-shares_fit.false) 3 (omega arith)), c.count_part-3.ensures.1, c.count_part-3.auto.results ∙ (c.count_part-2.auto.results ∙ (c.count_part.auto.results ∙ (fit-lengths c.args.work.now c.args.results.now m).1)))
 
 pub returns : goal.returns
 returns c =
