@@ -10,7 +10,7 @@ use lib.ListN.{length, get_or, length-append}
 use Rattle.rules.specs.Base.{Name, bytes, is, eq_name, any, all, between}
 use Rattle.rules.specs.Text.{is_name, reserved}
 use Rattle.rules.specs.Grammar.{Kind, Line, Class, Field, Method, Requires, Ensures, Main, Var, statement, End, Return}
-use Rattle.rules.specs.Grammar.{new, fields, methods, variables, afterMain, afterMethod, afterReturn, in_body, form, is_kind, statement_number}
+use Rattle.rules.specs.Grammar.{new, fields, methods, variables, after_main, after_method, after_return, in_body, form, is_kind, statement_number}
 use Rattle.rules.specs.Grammar as Grammar
 use Rattle.rules.specs.Places.{Place, stage_number, in_place, place_after}
 use Rattle.rules.specs.Places as Places
@@ -109,7 +109,7 @@ not_first k p a t e =
     let (i, _) = and_both (leb (stage_number (form k).first) n) _ b in
     omega (arith, leb→le _ n i)
 
-main-goes-on : (b c m : Bool) → T m → 5 ≤ stage_number (cond b (cond m afterMain afterMethod) (cond c afterReturn in_body))
+main-goes-on : (b c m : Bool) → T m → 5 ≤ stage_number (cond b (cond m after_main after_method) (cond c after_return in_body))
 unfolding stage_number
 main-goes-on true c true t = lit≤ tt
 main-goes-on true c false t = absurd t

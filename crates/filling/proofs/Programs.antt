@@ -9,7 +9,7 @@ use lib.ListN.{length, length-append}
 use Rattle.rules.specs.Base.{Name, between}
 use Rattle.rules.specs.Syntax.{Formula, Method, Program}
 use Rattle.rules.specs.Grammar.{Kind, Line, Class, Field, Requires, Ensures, Main, Var, statement, End, Return}
-use Rattle.rules.specs.Grammar.{afterMain, afterMethod, afterReturn, in_body, is_kind, statement_number}
+use Rattle.rules.specs.Grammar.{after_main, after_method, after_return, in_body, is_kind, statement_number}
 use Rattle.rules.specs.Grammar as Grammar
 use Rattle.rules.specs.Places.{Place, stage_number, in_place, place_after}
 use Rattle.rules.specs.Places as Places
@@ -89,7 +89,7 @@ pub record Passed (m : ℕ) (p : Place) (P : Program) : Type 0 where
   pub there : m < length P.methods
   pub later : T (eqb (stage_number p.stage) 3) → suc m < length P.methods
 
-pub after-statement : (b c m : Bool) → T (eqb (stage_number (cond b (cond m afterMain afterMethod) (cond c afterReturn in_body))) 3) → ⊥
+pub after-statement : (b c m : Bool) → T (eqb (stage_number (cond b (cond m after_main after_method) (cond c after_return in_body))) 3) → ⊥
 unfolding stage_number
 after-statement true c true t = t
 after-statement true c false t = t

@@ -13,7 +13,7 @@ use Rattle.rules.specs.Syntax.{Formula, Stmt, Row, Program, simple, return, if, 
 use Rattle.rules.specs.Grammar as Grammar
 use Rattle.rules.specs.Grammar.{Kind, Statement, Stage, Line, Class, Field, Method, Requires, Ensures, Main, Var, statement}
 use Rattle.rules.specs.Grammar.{Return, If, Else, Join, End, Loop, Again}
-use Rattle.rules.specs.Grammar.{inLocals, in_body, afterReturn, afterMain, next_stage, form, stands, is_statement, is_kind, kind_number, statement_number}
+use Rattle.rules.specs.Grammar.{in_locals, in_body, after_return, after_main, next_stage, form, stands, is_statement, is_kind, kind_number, statement_number}
 use Rattle.rules.specs.Places as Places
 use Rattle.rules.specs.Places.{Place, Branch, before_else, in_loop, first_place, stage_number, may_else, may_join, may_again, may_end, outer, fits, in_place, stage_after, branches_after, place_after, within_limits, ended}
 use Rattle.rules.specs.Scope.{Scope, Variable, Declarations, declarations, first_scope}
@@ -96,9 +96,9 @@ begin-nests b ws (r ∷ rs) t = t
 
 -- is it the place of a further statement?
 inside : Stage → Bool
-inside g = between (stage_number in_body) (stage_number afterReturn) (stage_number g)
+inside g = between (stage_number in_body) (stage_number after_return) (stage_number g)
 
-inside-above : (g : Stage) → T (inside g) → stage_number inLocals < stage_number g
+inside-above : (g : Stage) → T (inside g) → stage_number in_locals < stage_number g
 unfolding inside between stage_number
 inside-above g t = leb→le 6 (stage_number g) (and_both (leb 6 (stage_number g)) (leb (stage_number g) 7) t).0
 
@@ -107,11 +107,11 @@ abbrev Closed : Place → Type 0
 Closed p = T (not (inside p.stage)) → p.branches ≡ []
 
 -- after a statement another may stand, but for `end`, see `stage_after`
-next-inside : (a : Statement) → (inside (next_stage a) ≡ true) × (eqb (stage_number (next_stage a)) (stage_number afterMain) ≡ false)
+next-inside : (a : Statement) → (inside (next_stage a) ≡ true) × (eqb (stage_number (next_stage a)) (stage_number after_main) ≡ false)
 unfolding next_stage inside between stage_number
 next-inside a = go (eqb (statement_number a) (statement_number Return))
   where
-    go : (b : Bool) → (inside (cond b afterReturn in_body) ≡ true) × (eqb (stage_number (cond b afterReturn in_body)) (stage_number afterMain) ≡ false)
+    go : (b : Bool) → (inside (cond b after_return in_body) ≡ true) × (eqb (stage_number (cond b after_return in_body)) (stage_number after_main) ≡ false)
     go true = (refl, refl)
     go false = (refl, refl)
 
@@ -302,9 +302,9 @@ module _ (Γ : Declarations) (vs : List Variable) (l : Line) (p : Place) (closed
   line-nests (statement a) i w = statement-nests a i w
 
 -- after main's `end`
-outside : (g : Stage) → T (eqb (stage_number g) (stage_number afterMain)) → T (not (inside g))
+outside : (g : Stage) → T (eqb (stage_number g) (stage_number after_main)) → T (not (inside g))
 unfolding stage_number inside between
-outside g t = rw (eqb→eq (stage_number g) (stage_number afterMain) t) tt
+outside g t = rw (eqb→eq (stage_number g) (stage_number after_main) t) tt
 
 lines-nest :
     (text : List Line) (p : Place) (s : Scope) (ls : List Line) (items : List Item) (n : ℕ) → TakenLines text p s ls items →
@@ -364,7 +364,7 @@ module _ (rs : List Row) where
 
   -- of the statements, main's `end` comes last
   last_end :
-      (e m : Bool) (a : Statement) → T (eqb (stage_number (cond e (cond m afterMain Grammar.afterMethod) (next_stage a))) (stage_number afterMain)) →
+      (e m : Bool) (a : Statement) → T (eqb (stage_number (cond e (cond m after_main Grammar.after_method) (next_stage a))) (stage_number after_main)) →
       T m
   unfolding stage_number
   last_end true true a t = tt

@@ -12,7 +12,7 @@ use Rattle.rules.specs.Answers.{accepted}
 use Rattle.rules.specs.Syntax.{Stmt, Row}
 use Rattle.rules.specs.Grammar as Grammar
 use Rattle.rules.specs.Grammar.{Kind, Stage, Line, Class, Field, Method, Requires, Ensures, Main, Var, statement}
-use Rattle.rules.specs.Grammar.{afterReturn, form}
+use Rattle.rules.specs.Grammar.{after_return, form}
 use Rattle.rules.specs.Places.{Place, first_place, stage_number, in_place, stage_after, place_after}
 use Rattle.rules.specs.Scope.{Scope, Variable, Declarations, first_scope}
 use Rattle.rules.specs.Items as Items
@@ -50,7 +50,7 @@ later (suc i) (r ∷ rs) t = later i rs (weaker (is_return r.stmt) false rs absu
 
 -- is the line above a `return`?
 returned : Stage → Bool
-returned g = eqb (stage_number g) (stage_number afterReturn)
+returned g = eqb (stage_number g) (stage_number after_return)
 
 -- is what a line adds such a statement?
 of_statement : (Stmt → Bool) → Item → Bool

@@ -100,7 +100,7 @@ module _ {p : Place} {c : Names} (x : Counted p c) (w : within_limits p ≡ true
 
   -- no class begins after a statement, be it an `end` or not
   statement-stage :
-      (e m r : Bool) → stage_number (cond e (cond m Grammar.afterMain Grammar.afterMethod) (cond r Grammar.afterReturn Grammar.in_body)) ≡ 1 → ⊥
+      (e m r : Bool) → stage_number (cond e (cond m Grammar.after_main Grammar.after_method) (cond r Grammar.after_return Grammar.in_body)) ≡ 1 → ⊥
   unfolding stage_number
   statement-stage true true r i = omega arith
   statement-stage true false r i = omega arith

@@ -7,7 +7,7 @@ use native.Mathlib.Omega.{arith}
 use lib.Dec.{eqb, leb, ltb}
 use lib.ListN.{length}
 use borrow.Author.Tests.{eq-eqb, ne_eqb, eqb-true, eqb-false, lt-ltb, le-ltb, le-leb, lt-leb, leb-true, ltb-true}
-use Rattle.rules.specs.Grammar.{Kind, form, first_statement, IsKindNumber, statement_number, kind_number, is_kind, afterMain, afterMethod}
+use Rattle.rules.specs.Grammar.{Kind, form, first_statement, IsKindNumber, statement_number, kind_number, is_kind, after_main, after_method}
 use Rattle.rules.specs.Grammar.{Class, Field, Method, Main, Var, statement, Return, If, Else, Join, End, Loop, Again}
 use Rattle.rules.specs.Places as Places
 use Rattle.rules.specs.Places.{Branch, before_else, behind_else, in_loop, stage_number, one_more_if, may_else, may_join, may_again, may_end, outer}
@@ -120,7 +120,7 @@ module _ (p : Places.Place) where
       where
         go :
             (x y : Bool) → let n = (form (kind_numbered k)).next in
-            cond x (cond y (stage_number afterMain) (stage_number afterMethod)) (stage_number n) ≡ stage_number (cond x (cond y afterMain afterMethod) n)
+            cond x (cond y (stage_number after_main) (stage_number after_method)) (stage_number n) ≡ stage_number (cond x (cond y after_main after_method) n)
         go true true = refl
         go true false = refl
         go false y = refl

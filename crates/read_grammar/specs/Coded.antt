@@ -2,7 +2,7 @@
 use Rattle.std.specs.Prelude.{◌≡◌, Bool, true, not, cond, ◌&&◌, ◌||◌, List, [], ◌∷◌, ℕ, ◌+◌, ◌*◌, ◌/◌, ◌%◌, eqb, leb, ltb}
 use Rattle.rules.specs.Base.{between}
 use Rattle.rules.specs.Limits.{most_classes, most_fields, most_methods, most_locals, most_statements}
-use Rattle.rules.specs.Grammar.{form, first_statement, afterMethod, afterMain, class_kind, field_kind, method_kind, main_kind, var_kind, return_kind, if_kind, else_kind, join_kind, end_kind, loop_kind, again_kind}
+use Rattle.rules.specs.Grammar.{form, first_statement, after_method, after_main, class_kind, field_kind, method_kind, main_kind, var_kind, return_kind, if_kind, else_kind, join_kind, end_kind, loop_kind, again_kind}
 use Rattle.rules.specs.Places as Places
 use Rattle.rules.specs.Places.{Branch, before_else, behind_else, in_loop, stage_number, one_more_if}
 use Rattle.read_grammar.specs.Rows.{kind_numbered}
@@ -48,7 +48,7 @@ unfoldable pub in_place : ℕ → Place → Bool
 in_place k s = between (stage_number (form (kind_numbered k)).first) (stage_number (form (kind_numbered k)).last) s.stage && fits k s
 
 unfoldable pub stage_after : ℕ → Bool → ℕ → ℕ
-stage_after k main next = cond (eqb k end_kind) (cond main (stage_number afterMain) (stage_number afterMethod)) next
+stage_after k main next = cond (eqb k end_kind) (cond main (stage_number after_main) (stage_number after_method)) next
 
 unfoldable pub branches_after : ℕ → ℕ → ℕ
 branches_after k n =

@@ -14,7 +14,7 @@ use Rattle.rules.specs.Answers.{Verdict, accepted, refused, at_line, then, bad_b
 use Rattle.rules.specs.Answers as Answers
 use Rattle.rules.specs.Text as Text
 use Rattle.rules.specs.Text.{lines, onto, clean}
-use Rattle.rules.specs.Grammar.{Kind, Line, afterMain, form, IsKindNumber, kind_of, is_formed, read_line}
+use Rattle.rules.specs.Grammar.{Kind, Line, after_main, form, IsKindNumber, kind_of, is_formed, read_line}
 use Rattle.rules.specs.Places as Places
 use Rattle.rules.specs.Places.{Placed, stage_number, place_line, scan_line, scan_lines, ended, first_place}
 use Rattle.rules.proofs.Lists.{T_true}
@@ -201,16 +201,16 @@ module _ {t : List ℕ} {a n : ℕ} {s : Place} (x : Passed t a n s) where
       sym (x.rest ∙ rw (m, f, ← add-one n))
 
   module _ (h : length t ≤ a) where
-    pub pass-done : s.stage ≡ stage_number afterMain → accepted n ≡ scan_text t
+    pub pass-done : s.stage ≡ stage_number after_main → accepted n ≡ scan_text t
     unfolding scan_lines then ended coded stage_number
     pass-done e =
-        let z : stage_number x.place.stage ≡ stage_number afterMain = ap (λ (q : Place). q.stage) (sym x.is) ∙ e in
+        let z : stage_number x.place.stage ≡ stage_number after_main = ap (λ (q : Place). q.stage) (sym x.is) ∙ e in
         sym (x.rest ∙ rw (no_lines t a h, eq-eqb _ _ z) (ap accepted (omega arith)))
 
-    pub pass-ends : (s.stage ≡ stage_number afterMain → ⊥) → refused text_ends n ≡ scan_text t
+    pub pass-ends : (s.stage ≡ stage_number after_main → ⊥) → refused text_ends n ≡ scan_text t
     unfolding scan_lines then ended coded stage_number
     pass-ends e =
-        let z : stage_number x.place.stage ≡ stage_number afterMain → ⊥ = λ w. e (ap (λ (q : Place). q.stage) x.is ∙ w) in
+        let z : stage_number x.place.stage ≡ stage_number after_main → ⊥ = λ w. e (ap (λ (q : Place). q.stage) x.is ∙ w) in
         sym (x.rest ∙ rw (no_lines t a h, ne_eqb _ _ z))
 
 -- A TEXT THAT IS TAKEN

@@ -8,7 +8,7 @@ use lib.Dec.{T}
 use Rattle.rules.specs.Grammar as Grammar
 use Rattle.rules.specs.Grammar.{Kind, Statement, form, is_kind, is_statement, kind_number, next_stage}
 use Rattle.rules.specs.Grammar.{Class, Field, Method, Requires, Ensures, Main, Var, statement, End}
-use Rattle.rules.specs.Grammar.{inClass, afterMethod, afterMain}
+use Rattle.rules.specs.Grammar.{in_class, after_method, after_main}
 use Rattle.rules.specs.Base.{between}
 use Rattle.rules.proofs.LineKinds.{is_same}
 use Rattle.rules.specs.Limits.{most_fields, most_locals, most_statements, most_atoms, most_filled}
@@ -32,7 +32,7 @@ pub record Staged (place : Place) (v a : ℕ) : Type 0 where
   pub classes : stage_classes place.stage place.main ≤ place.classes
   pub methods : stage_methods place.stage ≤ place.methods
   pub atoms : a + 8 ≤ 8 * (place.statements + place.methods + spare_at place.stage place.main) + open_loops place.branches
-  pub closed : stage_number afterMain ≤ stage_number place.stage → open_loops place.branches ≡ 0
+  pub closed : stage_number after_main ≤ stage_number place.stage → open_loops place.branches ≡ 0
 
 -- the counts of what stands above a place
 pub record Counted (place : Place) (p : Pass) : Type 0 where
@@ -105,7 +105,7 @@ module _ {p : Place} {v a : ℕ} (x : Staged p v a) (b : ℕ) where
       }
 
   staged-class :
-      (q : Place) (u : ℕ) → stage_number p.stage ≤ 2 → q.stage ≡ inClass → q.main ≡ p.main → 1 ≤ q.classes →
+      (q : Place) (u : ℕ) → stage_number p.stage ≤ 2 → q.stage ≡ in_class → q.main ≡ p.main → 1 ≤ q.classes →
       q.methods ≡ p.methods → q.statements ≡ p.statements → q.branches ≡ p.branches → u ≡ v → b ≤ a → Staged q u b
   unfolding stage_number
   staged-class q u h s m c d n o e g =
@@ -231,7 +231,7 @@ staged-statement {p} {a} c x b s i g = go (is_kind (statement End) (statement s)
         (is_same (statement End) (statement s) (subst T (sym e) tt)) ends i g
     go false e =
         staged-body x b (place_after (statement s) p) _ (stage-from (statement s) p i) (statement-to s p i)
-        (subst (λ y. Inside (cond y (cond p.main afterMain afterMethod) (next_stage s))) (sym e) (next-inside s)) refl refl refl refl refl
+        (subst (λ y. Inside (cond y (cond p.main after_main after_method) (next_stage s))) (sym e) (next-inside s)) refl refl refl refl refl
         (ap (λ y. (cond y (with_block false c) c).locals) e) (omega (arith, g, loops-pay s p i))
 
 staged-on :
@@ -346,7 +346,7 @@ module _ {place : Place} {p : Pass} (x : Counted place p) where
       go true z = true-false (sym (ap has_atoms (is_same (statement End) (statement s) (subst T (sym z) tt)) ∙ e))
       go false z =
           body-atoms (place_after (statement s) place) (atom_limit (kind_number (statement s))) (stage-from (statement s) place i) (statement-to s place i) refl refl
-          (ap (λ y. needed_at (cond y (cond place.main afterMain afterMethod) (next_stage s)) place.main) z ∙ (next-inside s).0.needed place.main) pays w r
+          (ap (λ y. needed_at (cond y (cond place.main after_main after_method) (next_stage s)) place.main) z ∙ (next-inside s).0.needed place.main) pays w r
 
   pub atoms-room :
       (k : Kind) → in_place k place ≡ true → within_limits (place_after k place) ≡ true → at_least (place_after k place) ≤ 256 → has_atoms k ≡ true →
@@ -362,7 +362,7 @@ module _ {place : Place} {p : Pass} (x : Counted place p) where
   atoms-room (statement s) i w r e = statement-atoms s i w r e
 
   -- after the last line, which has no atoms, there is room for those of a line that is filled in
-  pub last-room : stage_number place.stage ≡ stage_number afterMain → within_limits place ≡ true → p.atoms + most_filled ≤ most_atom_rows
+  pub last-room : stage_number place.stage ≡ stage_number after_main → within_limits place ≡ true → p.atoms + most_filled ≤ most_atom_rows
   unfolding coded
   last-room h w =
       let e = x.staged.closed (omega (arith, h)) in

@@ -9,7 +9,7 @@ use Rattle.rules.specs.Base.{Name}
 use Rattle.rules.specs.Limits.{most_bytes, most_classes, most_methods, most_filled, work_bytes}
 use Rattle.rules.specs.Answers.{accepted}
 use Rattle.rules.specs.Grammar.{Kind, Line, Stage, Method, Var, statement, End, is_kind}
-use Rattle.rules.specs.Grammar.{beginning, inClass, afterMethod, afterHeader, afterRequires, inLocals, in_body, afterReturn, afterMain}
+use Rattle.rules.specs.Grammar.{beginning, in_class, after_method, after_header, after_requires, in_locals, in_body, after_return, after_main}
 use Rattle.rules.specs.Places as Places
 use Rattle.rules.specs.Places.{Place, first_place, in_place, place_after, within_limits, scan_lines}
 use Rattle.read_grammar.specs.Coded.{coded}
@@ -46,14 +46,14 @@ sized_on k c x = go (is_kind Method k) (is_kind Var k) (is_kind (statement End) 
 
 few-locals : (s : Stage) (n : ℕ) → locals_at s n ≤ n
 few-locals beginning n = omega arith
-few-locals inClass n = omega arith
-few-locals afterMethod n = omega arith
-few-locals afterHeader n = omega arith
-few-locals afterRequires n = omega arith
-few-locals inLocals n = omega arith
+few-locals in_class n = omega arith
+few-locals after_method n = omega arith
+few-locals after_header n = omega arith
+few-locals after_requires n = omega arith
+few-locals in_locals n = omega arith
 few-locals in_body n = omega arith
-few-locals afterReturn n = omega arith
-few-locals afterMain n = omega arith
+few-locals after_return n = omega arith
+few-locals after_main n = omega arith
 
 -- t is the text, w the work area, p how far pass 2 is, place that of the next line, and ls the lines to come
 pub record At (t w : List ℕ) (p : Pass) (place : Place) (ls : List Line) : Type 0 where

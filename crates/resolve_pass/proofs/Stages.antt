@@ -13,7 +13,7 @@ use Rattle.rules.specs.Grammar as Grammar
 use Rattle.rules.specs.Grammar.{Kind, Statement, Stage, Line, form, stands, is_kind, is_closing_number, statement_number, last_stage, next_stage}
 use Rattle.rules.specs.Grammar.{Class, Field, Method, Requires, Ensures, Main, Var, statement}
 use Rattle.rules.specs.Grammar.{Set, Let, New, Call, Return, Assert, Release, If, Else, Join, End, Add, Sub, Loop, Again, Open, Shut}
-use Rattle.rules.specs.Grammar.{beginning, inClass, afterMethod, afterHeader, afterRequires, inLocals, in_body, afterReturn, afterMain}
+use Rattle.rules.specs.Grammar.{beginning, in_class, after_method, after_header, after_requires, in_locals, in_body, after_return, after_main}
 use Rattle.rules.specs.Places as Places
 use Rattle.rules.specs.Places.{Place, Branch, before_else, behind_else, in_loop, stage_number, may_join, may_end, outer, fits, in_place, branches_after, place_after, place_line, within_limits, ended, scan_lines}
 use Rattle.rules.proofs.Lists.{T_true}
@@ -31,62 +31,62 @@ use Rattle.resolve_pass.specs.Passes.{has_atoms, atoms_at_most}
 -- how many `end` lines are to come at least: that of the open block, and main's
 abbrev pub needed_at : Stage → Bool → ℕ
 needed_at beginning m = 1
-needed_at inClass m = 1
-needed_at afterMethod m = 1
-needed_at afterHeader m = cond m 1 2
-needed_at afterRequires m = cond m 1 2
-needed_at inLocals m = cond m 1 2
+needed_at in_class m = 1
+needed_at after_method m = 1
+needed_at after_header m = cond m 1 2
+needed_at after_requires m = cond m 1 2
+needed_at in_locals m = cond m 1 2
 needed_at in_body m = cond m 1 2
-needed_at afterReturn m = cond m 1 2
-needed_at afterMain m = 0
+needed_at after_return m = cond m 1 2
+needed_at after_main m = 0
 
 -- formulas that may stand above, with one more, beside one for each statement line and each method
 abbrev pub spare_at : Stage → Bool → ℕ
 spare_at beginning m = 1
-spare_at inClass m = 1
-spare_at afterMethod m = 1
-spare_at afterHeader m = 0
-spare_at afterRequires m = 1
-spare_at inLocals m = cond m 1 2
+spare_at in_class m = 1
+spare_at after_method m = 1
+spare_at after_header m = 0
+spare_at after_requires m = 1
+spare_at in_locals m = cond m 1 2
 spare_at in_body m = cond m 1 2
-spare_at afterReturn m = cond m 1 2
-spare_at afterMain m = 0
+spare_at after_return m = cond m 1 2
+spare_at after_main m = 0
 
 -- locals of the open block, of which n are counted
 abbrev pub locals_at : Stage → ℕ → ℕ
 locals_at beginning n = 0
-locals_at inClass n = 0
-locals_at afterMethod n = 0
-locals_at afterHeader n = n
-locals_at afterRequires n = n
-locals_at inLocals n = n
+locals_at in_class n = 0
+locals_at after_method n = 0
+locals_at after_header n = n
+locals_at after_requires n = n
+locals_at in_locals n = n
 locals_at in_body n = n
-locals_at afterReturn n = n
-locals_at afterMain n = 0
+locals_at after_return n = n
+locals_at after_main n = 0
 
 -- classes above at least
 abbrev pub stage_classes : Stage → Bool → ℕ
 stage_classes beginning m = 0
-stage_classes inClass m = 1
-stage_classes afterMethod m = 1
-stage_classes afterHeader m = 1
-stage_classes afterRequires m = 1
-stage_classes inLocals m = cond m 0 1
+stage_classes in_class m = 1
+stage_classes after_method m = 1
+stage_classes after_header m = 1
+stage_classes after_requires m = 1
+stage_classes in_locals m = cond m 0 1
 stage_classes in_body m = cond m 0 1
-stage_classes afterReturn m = cond m 0 1
-stage_classes afterMain m = 0
+stage_classes after_return m = cond m 0 1
+stage_classes after_main m = 0
 
 -- methods above at least
 abbrev pub stage_methods : Stage → ℕ
 stage_methods beginning = 0
-stage_methods inClass = 0
-stage_methods afterMethod = 0
-stage_methods afterHeader = 1
-stage_methods afterRequires = 1
-stage_methods inLocals = 0
+stage_methods in_class = 0
+stage_methods after_method = 0
+stage_methods after_header = 1
+stage_methods after_requires = 1
+stage_methods in_locals = 0
 stage_methods in_body = 0
-stage_methods afterReturn = 0
-stage_methods afterMain = 0
+stage_methods after_return = 0
+stage_methods after_main = 0
 
 -- two stages that the tables do not tell apart
 pub record Like (s r : Stage) : Type 0 where
@@ -99,41 +99,41 @@ pub record Like (s r : Stage) : Type 0 where
 like : (s : Stage) → Like s s
 like s = record { needed = λ m. refl; spare = λ m. refl; locals = λ n. refl; classes = λ m. refl; methods = refl }
 
-pub at-header : (s : Stage) → stage_number s ≡ 3 → Like s afterHeader
+pub at-header : (s : Stage) → stage_number s ≡ 3 → Like s after_header
 unfolding stage_number
 at-header beginning e = absurd (omega arith)
-at-header inClass e = absurd (omega arith)
-at-header afterMethod e = absurd (omega arith)
-at-header afterHeader e = like afterHeader
-at-header afterRequires e = absurd (omega arith)
-at-header inLocals e = absurd (omega arith)
+at-header in_class e = absurd (omega arith)
+at-header after_method e = absurd (omega arith)
+at-header after_header e = like after_header
+at-header after_requires e = absurd (omega arith)
+at-header in_locals e = absurd (omega arith)
 at-header in_body e = absurd (omega arith)
-at-header afterReturn e = absurd (omega arith)
-at-header afterMain e = absurd (omega arith)
+at-header after_return e = absurd (omega arith)
+at-header after_main e = absurd (omega arith)
 
-pub at-requires : (s : Stage) → stage_number s ≡ 4 → Like s afterRequires
+pub at-requires : (s : Stage) → stage_number s ≡ 4 → Like s after_requires
 unfolding stage_number
 at-requires beginning e = absurd (omega arith)
-at-requires inClass e = absurd (omega arith)
-at-requires afterMethod e = absurd (omega arith)
-at-requires afterHeader e = absurd (omega arith)
-at-requires afterRequires e = like afterRequires
-at-requires inLocals e = absurd (omega arith)
+at-requires in_class e = absurd (omega arith)
+at-requires after_method e = absurd (omega arith)
+at-requires after_header e = absurd (omega arith)
+at-requires after_requires e = like after_requires
+at-requires in_locals e = absurd (omega arith)
 at-requires in_body e = absurd (omega arith)
-at-requires afterReturn e = absurd (omega arith)
-at-requires afterMain e = absurd (omega arith)
+at-requires after_return e = absurd (omega arith)
+at-requires after_main e = absurd (omega arith)
 
 pub at_body : (s : Stage) → 5 ≤ stage_number s → stage_number s ≤ 7 → Like s in_body
 unfolding stage_number
 at_body beginning l h = absurd (omega arith)
-at_body inClass l h = absurd (omega arith)
-at_body afterMethod l h = absurd (omega arith)
-at_body afterHeader l h = absurd (omega arith)
-at_body afterRequires l h = absurd (omega arith)
-at_body inLocals l h = record { needed = λ m. refl; spare = λ m. refl; locals = λ n. refl; classes = λ m. refl; methods = refl }
+at_body in_class l h = absurd (omega arith)
+at_body after_method l h = absurd (omega arith)
+at_body after_header l h = absurd (omega arith)
+at_body after_requires l h = absurd (omega arith)
+at_body in_locals l h = record { needed = λ m. refl; spare = λ m. refl; locals = λ n. refl; classes = λ m. refl; methods = refl }
 at_body in_body l h = like in_body
-at_body afterReturn l h = record { needed = λ m. refl; spare = λ m. refl; locals = λ n. refl; classes = λ m. refl; methods = refl }
-at_body afterMain l h = absurd (omega arith)
+at_body after_return l h = record { needed = λ m. refl; spare = λ m. refl; locals = λ n. refl; classes = λ m. refl; methods = refl }
+at_body after_main l h = absurd (omega arith)
 
 -- a stage at which a statement may stand, unless it is an early one
 abbrev pub Inside : Stage → Type 0
@@ -144,8 +144,8 @@ pub next-inside : (s : Statement) → Inside (next_stage s)
 unfolding next_stage stage_number
 next-inside s = go (eqb (statement_number s) (statement_number Return))
   where
-    go : (b : Bool) → Inside (cond b afterReturn in_body)
-    go true = (at_body afterReturn (omega arith) (omega arith), (omega arith, omega arith))
+    go : (b : Bool) → Inside (cond b after_return in_body)
+    go true = (at_body after_return (omega arith) (omega arith), (omega arith, omega arith))
     go false = (like in_body, (omega arith, omega arith))
 
 -- a stage between blocks
@@ -157,38 +157,38 @@ pub record Between (s : Stage) : Type 0 where
 pub at-between : (s : Stage) → stage_number s ≤ 2 → Between s
 unfolding stage_number
 at-between beginning h = record { needed = λ m. refl; spare = λ m. refl; locals = λ n. refl }
-at-between inClass h = record { needed = λ m. refl; spare = λ m. refl; locals = λ n. refl }
-at-between afterMethod h = record { needed = λ m. refl; spare = λ m. refl; locals = λ n. refl }
-at-between afterHeader h = absurd (omega arith)
-at-between afterRequires h = absurd (omega arith)
-at-between inLocals h = absurd (omega arith)
+at-between in_class h = record { needed = λ m. refl; spare = λ m. refl; locals = λ n. refl }
+at-between after_method h = record { needed = λ m. refl; spare = λ m. refl; locals = λ n. refl }
+at-between after_header h = absurd (omega arith)
+at-between after_requires h = absurd (omega arith)
+at-between in_locals h = absurd (omega arith)
 at-between in_body h = absurd (omega arith)
-at-between afterReturn h = absurd (omega arith)
-at-between afterMain h = absurd (omega arith)
+at-between after_return h = absurd (omega arith)
+at-between after_main h = absurd (omega arith)
 
 pub at-class : (s : Stage) (m : Bool) → 1 ≤ stage_number s → stage_number s ≤ 2 → stage_classes s m ≡ 1
 unfolding stage_number
 at-class beginning m l h = absurd (omega arith)
-at-class inClass m l h = refl
-at-class afterMethod m l h = refl
-at-class afterHeader m l h = absurd (omega arith)
-at-class afterRequires m l h = absurd (omega arith)
-at-class inLocals m l h = absurd (omega arith)
+at-class in_class m l h = refl
+at-class after_method m l h = refl
+at-class after_header m l h = absurd (omega arith)
+at-class after_requires m l h = absurd (omega arith)
+at-class in_locals m l h = absurd (omega arith)
 at-class in_body m l h = absurd (omega arith)
-at-class afterReturn m l h = absurd (omega arith)
-at-class afterMain m l h = absurd (omega arith)
+at-class after_return m l h = absurd (omega arith)
+at-class after_main m l h = absurd (omega arith)
 
-pub at-end : (s : Stage) → stage_number s ≡ stage_number afterMain → Like s afterMain
+pub at-end : (s : Stage) → stage_number s ≡ stage_number after_main → Like s after_main
 unfolding stage_number
 at-end beginning e = absurd (omega arith)
-at-end inClass e = absurd (omega arith)
-at-end afterMethod e = absurd (omega arith)
-at-end afterHeader e = absurd (omega arith)
-at-end afterRequires e = absurd (omega arith)
-at-end inLocals e = absurd (omega arith)
+at-end in_class e = absurd (omega arith)
+at-end after_method e = absurd (omega arith)
+at-end after_header e = absurd (omega arith)
+at-end after_requires e = absurd (omega arith)
+at-end in_locals e = absurd (omega arith)
 at-end in_body e = absurd (omega arith)
-at-end afterReturn e = absurd (omega arith)
-at-end afterMain e = like afterMain
+at-end after_return e = absurd (omega arith)
+at-end after_main e = like after_main
 
 -- A LINE IN PLACE
 pub limits : (p : Place) → within_limits p ≡ true → Low (coded p)
@@ -202,7 +202,7 @@ pub stage-to : (k : Kind) (p : Place) → in_place k p ≡ true → stage_number
 unfolding in_place
 stage-to k p i = (between-true _ _ _ (both_true (between (stage_number (form k).first) (stage_number (form k).last) (stage_number p.stage)) (fits k p) i).0).1
 
-last-inside : (b : Bool) → stage_number (cond b afterReturn in_body) ≤ 7
+last-inside : (b : Bool) → stage_number (cond b after_return in_body) ≤ 7
 unfolding stage_number
 last-inside true = omega arith
 last-inside false = omega arith
@@ -315,12 +315,12 @@ module _ (p : Place) where
   -- e: the statement is `end`
   statement-on :
       (e : Bool) (s : Statement) → 5 ≤ stage_number p.stage → stage_number p.stage ≤ 7 →
-      at_least p ≤ suc p.statements + needed_at (cond e (cond p.main afterMain afterMethod) (next_stage s)) p.main
+      at_least p ≤ suc p.statements + needed_at (cond e (cond p.main after_main after_method) (next_stage s)) p.main
   statement-on e s l h = go e p.main ((at_body p.stage l h).needed p.main)
     where
       go :
           (e m : Bool) → needed_at p.stage p.main ≡ cond m 1 2 →
-          at_least p ≤ suc p.statements + needed_at (cond e (cond m afterMain afterMethod) (next_stage s)) p.main
+          at_least p ≤ suc p.statements + needed_at (cond e (cond m after_main after_method) (next_stage s)) p.main
       go true true i = omega arith
       go true false i = omega arith
       go false true i = omega (arith, one-or-two p.main, (next-inside s).0.needed p.main)
@@ -338,13 +338,13 @@ module _ (p : Place) where
   at-least-on (statement s) i = statement-on (is_kind (statement End) (statement s)) s (stage-from (statement s) p i) (statement-to s p i)
 
   -- a text ends after main
-  pub text-ends : (n : ℕ) (out : List Line) → scan_lines [] n p ≡ accepted out → stage_number p.stage ≡ stage_number afterMain
+  pub text-ends : (n : ℕ) (out : List Line) → scan_lines [] n p ≡ accepted out → stage_number p.stage ≡ stage_number after_main
   unfolding scan_lines ended
-  text-ends n out e = go (eqb (stage_number p.stage) (stage_number afterMain)) refl e
+  text-ends n out e = go (eqb (stage_number p.stage) (stage_number after_main)) refl e
     where
       go :
-          (b : Bool) → eqb (stage_number p.stage) (stage_number afterMain) ≡ b → cond b (accepted []) (refused text_ends n) ≡ accepted out →
-          stage_number p.stage ≡ stage_number afterMain
+          (b : Bool) → eqb (stage_number p.stage) (stage_number after_main) ≡ b → cond b (accepted []) (refused text_ends n) ≡ accepted out →
+          stage_number p.stage ≡ stage_number after_main
       go true f g = eqb-true _ _ f
       go false f g = refused-accepted g
 

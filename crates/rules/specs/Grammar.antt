@@ -42,7 +42,7 @@ pub data Tail : Type 0 where
 
 -- where in a text a line may stand
 pub data Stage : Type 0 where
-  beginning inClass afterMethod afterHeader afterRequires inLocals in_body afterReturn afterMain : Stage
+  beginning in_class after_method after_header after_requires in_locals in_body after_return after_main : Stage
 
 -- from the stage `first` to the stage `last`; after the line the text is at stage `next`
 pub record Form : Type 0 where
@@ -248,23 +248,23 @@ is_kind a k = beq (is_statement a) (is_statement k) && eqb (kind_number a) (kind
 -- With W2, "A statement between [`return`] and the next `else`, `join` or `end` is number 4"; with W5, "A `return` may also stand last before
 -- `again`": these alone may stand straight after it.
 unfoldable pub last_stage : Statement → Stage
-last_stage s = cond (is_closing_number (statement_number s)) afterReturn in_body
+last_stage s = cond (is_closing_number (statement_number s)) after_return in_body
 
 unfoldable pub next_stage : Statement → Stage
-next_stage s = cond (eqb (statement_number s) (statement_number Return)) afterReturn in_body
+next_stage s = cond (eqb (statement_number s) (statement_number Return)) after_return in_body
 
 -- "`class C`, then `field T f` lines, then methods."
 -- "`method T m T w`, `requires` formula, `ensures` formula, `var T x` lines, statements, `end`."
 -- "Last `main`, `var` lines, statements, `end`. Nothing follows."
 unfoldable pub form : Kind → Form
-form Class = stands beginning afterMethod inClass "class" (new classes ∷ []) nothing
-form Field = stands inClass inClass inClass "field" (type_name ∷ new fields ∷ []) nothing
-form Method = stands inClass afterMethod afterHeader "method" (type_name ∷ new methods ∷ type_name ∷ new variables ∷ []) nothing
-form Requires = stands afterHeader afterHeader afterRequires "requires" [] formula
-form Ensures = stands afterRequires afterRequires inLocals "ensures" [] formula
-form Main = stands beginning afterMethod inLocals "main" [] nothing
-form Var = stands inLocals inLocals inLocals "var" (type_name ∷ new variables ∷ []) nothing
-form (statement s) = stands inLocals (last_stage s) (next_stage s) (shape s).word (shape s).operands (shape s).tail
+form Class = stands beginning after_method in_class "class" (new classes ∷ []) nothing
+form Field = stands in_class in_class in_class "field" (type_name ∷ new fields ∷ []) nothing
+form Method = stands in_class after_method after_header "method" (type_name ∷ new methods ∷ type_name ∷ new variables ∷ []) nothing
+form Requires = stands after_header after_header after_requires "requires" [] formula
+form Ensures = stands after_requires after_requires in_locals "ensures" [] formula
+form Main = stands beginning after_method in_locals "main" [] nothing
+form Var = stands in_locals in_locals in_locals "var" (type_name ∷ new variables ∷ []) nothing
+form (statement s) = stands in_locals (last_stage s) (next_stage s) (shape s).word (shape s).operands (shape s).tail
 
 unfoldable pub kind_of : Name → Option Kind
 kind_of w = first (λ k. is (form k).word w) kinds

@@ -5,19 +5,19 @@ use Rattle.rules.specs.Limits.{most_classes, most_fields, most_methods, most_loc
 use Rattle.rules.specs.Answers.{Refusal, Verdict, accepted, refused, at_line, then, malformed, limit_passed, text_ends}
 use Rattle.rules.specs.Grammar.{Kind, Stage, Line, form, read_line, is_kind, is_statement}
 use Rattle.rules.specs.Grammar.{Class, Field, Method, Main, Var, statement, Return, If, Else, Join, End, Loop, Again}
-use Rattle.rules.specs.Grammar.{beginning, inClass, afterMethod, afterHeader, afterRequires, inLocals, in_body, afterReturn, afterMain}
+use Rattle.rules.specs.Grammar.{beginning, in_class, after_method, after_header, after_requires, in_locals, in_body, after_return, after_main}
 
 -- the stages in the order of a text
 unfoldable pub stage_number : Stage → ℕ
 stage_number beginning = 0
-stage_number inClass = 1
-stage_number afterMethod = 2
-stage_number afterHeader = 3
-stage_number afterRequires = 4
-stage_number inLocals = 5
+stage_number in_class = 1
+stage_number after_method = 2
+stage_number after_header = 3
+stage_number after_requires = 4
+stage_number in_locals = 5
 stage_number in_body = 6
-stage_number afterReturn = 7
-stage_number afterMain = 8
+stage_number after_return = 7
+stage_number after_main = 8
 
 -- an open branch, before or after its `else`, or an open loop
 pub data Branch : Type 0 where
@@ -90,7 +90,7 @@ unfoldable pub in_place : Kind → Place → Bool
 in_place k p = between (stage_number (form k).first) (stage_number (form k).last) (stage_number p.stage) && fits k p
 
 unfoldable pub stage_after : Kind → Place → Stage
-stage_after k p = cond (is_kind (statement End) k) (cond p.main afterMain afterMethod) (form k).next
+stage_after k p = cond (is_kind (statement End) k) (cond p.main after_main after_method) (form k).next
 
 unfoldable pub branches_after : Kind → List Branch → List Branch
 branches_after k bs =
@@ -143,7 +143,7 @@ unfoldable pub scan_line : Place → Name → Try Refusal Placed
 scan_line p l = read_line l >>= λ a. place_line p a.kind >>= λ q. ok (record { line = a; next = q })
 
 unfoldable pub ended : Place → Bool
-ended p = eqb (stage_number p.stage) (stage_number afterMain)
+ended p = eqb (stage_number p.stage) (stage_number after_main)
 
 -- the lines of a text, after n lines above; 8: "text ends before main's `end`", "count of lines"
 unfoldable pub scan_lines : List Name → ℕ → Place → Verdict (List Line)

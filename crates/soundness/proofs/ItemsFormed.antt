@@ -10,7 +10,7 @@ use lib.Dec.{T, leb, leb→le, le→leb, lit<, lit≤}
 use Rattle.rules.specs.Base.{Name, between, Member}
 use Rattle.rules.specs.Base as Base
 use Rattle.rules.specs.Syntax.{result_variable}
-use Rattle.rules.specs.Grammar.{Kind, Stage, Line, form, afterHeader, afterRequires, afterMethod, afterMain}
+use Rattle.rules.specs.Grammar.{Kind, Stage, Line, form, after_header, after_requires, after_method, after_main}
 use Rattle.rules.specs.Grammar.{Class, Field, Method, Requires, Ensures, Main, Var, Statement, statement, Set, Let, New, Call, Return, Assert, Release, If, Else, Join, End, Add, Sub, Loop, Again, Open, Shut}
 use Rattle.rules.specs.Grammar as Grammar
 use Rattle.rules.specs.Places.{Place, first_place, stage_number, in_place, place_after, stage_after}
@@ -63,7 +63,7 @@ header-ends b H v i =
     ⊎_elim (λ j. inl (H.variables v j)) (λ j. inr (H.result v j)) (append-member b.variables b.result v i)
 
 abbrev in_header : Stage → Bool
-in_header st = between (stage_number afterHeader) (stage_number afterRequires) (stage_number st)
+in_header st = between (stage_number after_header) (stage_number after_requires) (stage_number st)
 
 abbrev HeaderAt : Stage → BlockScope → Type 0
 HeaderAt st b = T (in_header st) → Header b
@@ -76,12 +76,12 @@ wider a z b y n l u t =
 
 -- a kind of line that stands in headers only
 stands-in-header :
-    (k : Kind) (p : Place) → stage_number afterHeader ≤ stage_number (form k).first →
-    stage_number (form k).last ≤ stage_number afterRequires → T (in_place k p) → T (in_header p.stage)
+    (k : Kind) (p : Place) → stage_number after_header ≤ stage_number (form k).first →
+    stage_number (form k).last ≤ stage_number after_requires → T (in_place k p) → T (in_header p.stage)
 unfolding in_place
 stands-in-header k p a z t = wider _ _ _ _ (stage_number p.stage) a z (and_both (between _ _ (stage_number p.stage)) _ t).0
 
-after-end : (main : Bool) → T (in_header (cond main afterMain afterMethod)) → ⊥
+after-end : (main : Bool) → T (in_header (cond main after_main after_method)) → ⊥
 unfolding stage_number between
 after-end true h = h
 after-end false h = h

@@ -15,7 +15,7 @@ use Rattle.rules.specs.Syntax.{Expr, Formula, Simple, Stmt, Method, Program, no_
 use Rattle.rules.specs.Syntax.{set, assign, compute, new, call, return, assert, release, open_chain, shut_chain, simple, if, else, join, loop, again, end}
 use Rattle.rules.specs.Text.{is_rel, is_condition, expr_of}
 use Rattle.rules.specs.Text as Text
-use Rattle.rules.specs.Grammar.{Kind, Stage, Use, Line, read, assigned, type_name, variable, form, is_kind, statement_number, afterMethod, afterMain, afterReturn, in_body}
+use Rattle.rules.specs.Grammar.{Kind, Stage, Use, Line, read, assigned, type_name, variable, form, is_kind, statement_number, after_method, after_main, after_return, in_body}
 use Rattle.rules.specs.Grammar.{Class, Field, Method as MethodLine, Requires, Ensures, Main, Var, Statement, statement, Set, Let, New, Call, Return, Assert, Release, If, Else, Join, End, Add, Sub, Loop, Again, Open, Shut}
 use Rattle.rules.specs.Grammar as Grammar
 use Rattle.rules.specs.Places.{Place, first_place, stage_number, in_place, branches_after, place_after, within_limits}
@@ -57,7 +57,7 @@ in_frame v l = from_member 0 15 v (omega arith) (omega (arith, l))
 
 -- BLOCKS
 abbrev outside : Stage → Bool
-outside st = leb (stage_number st) (stage_number afterMethod)
+outside st = leb (stage_number st) (stage_number after_method)
 
 -- the variables of a block are those of a frame, and its locals are counted; outside of blocks there is none
 record Fitting (p : Place) (b : BlockScope) : Type 0 where
@@ -84,13 +84,13 @@ locals-within p t =
     leb→le p.locals most_locals (and_both (leb p.locals most_locals) _ c).0
 
 -- where a kind of line stands outside of blocks, there is no local
-stands-outside : (k : Kind) (p : Place) → stage_number (form k).last ≤ stage_number afterMethod → T (in_place k p) → T (outside p.stage)
+stands-outside : (k : Kind) (p : Place) → stage_number (form k).last ≤ stage_number after_method → T (in_place k p) → T (outside p.stage)
 unfolding in_place between
 stands-outside k p z t =
     let (i, _) = and_both (between _ _ (stage_number p.stage)) _ t in
     let (_, l) = and_both (leb _ (stage_number p.stage)) _ i in
     let u : stage_number p.stage ≤ stage_number (form k).last = leb→le _ _ l in
-    le→leb (stage_number p.stage) (stage_number afterMethod) (omega (arith, u, z))
+    le→leb (stage_number p.stage) (stage_number after_method) (omega (arith, u, z))
 
 module _ (p : Place) (C : Name) (b : BlockScope) where
   statement-fits :
@@ -98,7 +98,7 @@ module _ (p : Place) (C : Name) (b : BlockScope) where
   unfolding Base.opened Grammar.opened Places.opened Scope.opened
   statement-fits a ws F = go (is_kind (statement End) (statement a)) (eqb (statement_number a) (statement_number Return)) p.main
     where
-      inside : (c : Bool) → T (outside (cond c afterReturn in_body)) → ⊥
+      inside : (c : Bool) → T (outside (cond c after_return in_body)) → ⊥
       inside true h = h
       inside false h = h
 
@@ -106,7 +106,7 @@ module _ (p : Place) (C : Name) (b : BlockScope) where
           (c d m : Bool) →
           Fitting
           (record {
-            stage = cond c (cond m afterMain afterMethod) (cond d afterReturn in_body);
+            stage = cond c (cond m after_main after_method) (cond d after_return in_body);
             main = p.main;
             branches = branches_after (statement a) p.branches;
             classes = p.classes;

@@ -1,3 +1,4 @@
+use Rattle.std.proofs.Common.{rules}
 use mathlib.Core.Path.{◌≡◌, sym, subst, ap, ◌∙◌}
 use native.Mathlib.Omega.{arith}
 use lib.ListN.{get_or}
@@ -18,15 +19,13 @@ pub turn-r-requires : goal.turn-r-requires
 turn-r-requires c = (c.requires.0, (c.loop-r.invariant.0, c.loop-r-test.true))
 
 pub returns-then-r : goal.returns-then-r
-returns-then-r c = turned-stop c.args.work.now c.loop-r.r _ c.turn-r.result _ _ _ c.if-r.true c.turn-r.ensures
+returns-then-r c = search rules
 
 pub loop-r-smaller : goal.loop-r-smaller
-loop-r-smaller c = (turned_on c.args.work.now c.loop-r.r _ c.turn-r.result c.if-r.false c.turn-r.ensures).1
+loop-r-smaller c = search rules
 
 pub loop-r-preserved : goal.loop-r-preserved
-loop-r-preserved c =
-    let (W, l, k) = turned_on c.args.work.now c.loop-r.r _ c.turn-r.result c.if-r.false c.turn-r.ensures in
-    (W, (λ n z. k n (c.loop-r.invariant.1.0 n z), c.if-r.false))
+loop-r-preserved c = search rules
 
 pub returns : goal.returns
 returns c =
