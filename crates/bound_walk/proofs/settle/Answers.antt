@@ -1,4 +1,3 @@
-use Rattle.std.proofs.Common.{rules}
 use mathlib.Core.Path.{◌≡◌, sym, subst, ap, ◌∙◌}
 use native.Mathlib.Omega.{arith}
 use lib.ListN.{get_or}
@@ -19,13 +18,15 @@ pub turn-r-requires : goal.turn-r-requires
 turn-r-requires c = (c.requires.0, (c.loop-r.invariant.0, c.loop-r-test.true))
 
 pub returns-then-r : goal.returns-then-r
-returns-then-r c = search rules
+returns-then-r c = turned-stop c.args.work.now c.loop-r.r c.turn-r.result c.turn-r.result.unbounded _ _ _ c.if-r.true c.turn-r.ensures
 
 pub loop-r-smaller : goal.loop-r-smaller
-loop-r-smaller c = search rules
+loop-r-smaller c = (turned_on c.args.work.now c.loop-r.r c.turn-r.result c.turn-r.result.unbounded c.if-r.false c.turn-r.ensures).1
 
 pub loop-r-preserved : goal.loop-r-preserved
-loop-r-preserved c = search rules
+loop-r-preserved c =
+    let (W, l, k) = turned_on c.args.work.now c.loop-r.r c.turn-r.result c.turn-r.result.unbounded c.if-r.false c.turn-r.ensures in
+    (W, (λ n z. k n (c.loop-r.invariant.1.0 n z), c.if-r.false))
 
 pub returns : goal.returns
 returns c =
