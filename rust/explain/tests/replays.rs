@@ -1,9 +1,8 @@
 //! What is said of a run that its steps stopped in a loop: the last round is told as the
-//! run did it, at every number of steps, and a long run is soon done again.
+//! run did it, at every number of steps, and a long run is done again.
 
 use explain::cause::stop_cause;
 use model::machine::Room;
-use std::time::{Duration, Instant};
 
 fn script(lines: &str) -> Vec<u8> {
     lines.replace(' ', "\t").replace('|', "\n").into_bytes()
@@ -67,15 +66,7 @@ fn a_stop_after_many_steps() {
     assert!(cause.notes.contains(&rounds), "{:?}", cause.notes);
 }
 
-/// The processor time of this thread where the system tells it, since others use the
-/// machine too; else the time by the clock.
-fn worked(since: Instant) -> Duration {
-    let told = std::fs::read_to_string("/proc/thread-self/schedstat").ok();
-    let nanoseconds = told.and_then(|told| told.split(' ').next()?.parse().ok());
-    nanoseconds.map_or_else(|| since.elapsed(), Duration::from_nanos)
-}
-
-/// A run of ten million steps is done again in less than two seconds.
+/// A run of ten million steps is done again, and what is told of it is what its rounds did.
 #[test]
 fn ten_million_steps() {
     const STEPS: u32 = 10_000_000;
@@ -84,14 +75,17 @@ fn ten_million_steps() {
                    |var int m|let m this.n|add m m k|set this n m|return m|end|main|var C c\
                    |var int n|var int k|new c C|let k 1|loop ne n -1 acc c n|call n c up k|again\
                    |end|";
-    for lines in [counting, calling] {
+    // The loop's line, and the steps of one round.
+    for (lines, line, round) in [(counting, 5, 3), (calling, 18, 7)] {
         let text = script(lines);
-        let start = Instant::now();
-        let before = worked(start);
         let cause = stop_cause(&text, Room::WHOLE, STEPS, 21).expect("a cause");
-        let took = worked(start) - before;
-        assert!(cause.headline().contains("is not false yet"));
-        println!("{took:?}");
-        assert!(took < Duration::from_secs(2), "{took:?}");
+        let rounds = STEPS / round;
+        let head = format!(
+            "the loop of line {line} has done {rounds} rounds, and `ne n -1` is not false yet"
+        );
+        assert_eq!(cause.headline(), head);
+        let before = rounds - 1;
+        let last = format!("in its last round `n` went from {before} to {rounds}, by 1");
+        assert!(cause.notes.contains(&last), "{:?}", cause.notes);
     }
 }
