@@ -2,10 +2,12 @@
 use mathlib.Core.Path.{◌≡◌, refl, ap, ◌∙◌}
 use mathlib.Core.Bool.{Bool, true, false, ◌&&◌}
 use mathlib.Core.List.{List, [], ◌∷◌}
-use Prim.Native.Nat.{ℕ, zero, suc, ◌+◌, ◌≤◌, ◌<◌}
+use Prim.Native.Nat.{ℕ, zero, suc, ◌+◌, ◌-◌, ◌≤◌, ◌<◌}
 use native.Mathlib.Omega.{arith}
+use native.Mathlib.Numerals.{add-one}
 use lib.Dec.{leb}
 use lib.ListN.{length, get_or, take}
+use lib.Seq.{take-length}
 use borrow.Author.Tests.{le-leb, lt-leb}
 use Rattle.rules.specs.Base.{between, all}
 use Rattle.rules.specs.Limits.{heap_objects, most_scripts}
@@ -42,13 +44,11 @@ all_more (k ∷ ks) (suc i) e h = go (leb 1 k) (all (leb 1) (take i ks)) e (λ q
     go true b e f = f e
     go false b e f = e
 
-all_none : (ks : List ℕ) (n i : ℕ) → i < n → i < length ks → get_or ks i 0 ≡ 0 → all (leb 1) (take n ks) ≡ false
+all_none : (ks : List ℕ) (i : ℕ) → i < length ks → get_or ks i 0 ≡ 0 → all (leb 1) ks ≡ false
 unfolding all
-all_none [] n i h l e = absurd (omega arith)
-all_none (k ∷ ks) zero i h l e = absurd (omega arith)
-all_none (k ∷ ks) (suc n) zero h l e = ap (λ (b : Bool). b && all (leb 1) (take n ks)) (lt-leb 1 k (omega (arith, e)))
-all_none (k ∷ ks) (suc n) (suc i) h l e =
-    ap (λ (b : Bool). leb 1 k && b) (all_none ks n i (omega arith) (omega arith) e) ∙ no_second (leb 1 k)
+all_none [] i h e = absurd (omega arith)
+all_none (k ∷ ks) zero h e = ap (λ (b : Bool). b && all (leb 1) ks) (lt-leb 1 k (omega (arith, e)))
+all_none (k ∷ ks) (suc i) h e = ap (λ (b : Bool). leb 1 k && b) (all_none ks i (omega arith) e) ∙ no_second (leb 1 k)
 
 -- what is left of the heap after the first i shares, none of them 0
 pub record Left (ks : List ℕ) (i left : ℕ) : Type 0 where
@@ -60,22 +60,25 @@ module _ (ks : List ℕ) where
   unfolding total all
   left-none = record { sum = refl; each = refl }
 
-  pub left-more : (i left rest : ℕ) → i < length ks → Left ks i left → rest + get_or ks i 0 ≡ left → (get_or ks i 0 ≡ 0 → ⊥) → Left ks (suc i) rest
-  left-more i left rest h L e z =
-      record { sum = omega (arith, L.sum, e, total-more ks i h); each = all_more ks i L.each (omega (arith, z)) }
+  pub left-more : (i left : ℕ) → i < length ks → Left ks i left → get_or ks i 0 ≤ left → (get_or ks i 0 ≡ 0 → ⊥) → Left ks (i + 1) (left - get_or ks i 0)
+  left-more i left h L e z =
+      rw add-one
+      (record { sum = omega (arith, L.sum, e, total-more ks i h); each = all_more ks i L.each (omega (arith, z)) })
 
-  pub zero-fails : (n i : ℕ) → i < n → i < length ks → get_or ks i 0 ≡ 0 → false ≡ fit_together (take n ks)
+  pub zero-fails : (i : ℕ) → i < length ks → get_or ks i 0 ≡ 0 → false ≡ fit_together ks
   unfolding fit_together
-  zero-fails n i h l e = rw (all_none ks n i h l e) refl
+  zero-fails i h e = rw (all_none ks i h e) refl
 
-  pub more-fails : (n i left : ℕ) → i < n → i < length ks → Left ks i left → left < get_or ks i 0 → false ≡ fit_together (take n ks)
+  pub more-fails : (i left : ℕ) → i < length ks → Left ks i left → left < get_or ks i 0 → false ≡ fit_together ks
   unfolding fit_together
-  more-fails n i left h l L e =
-      rw (lt-leb (total (take n ks)) heap_objects (omega (arith, total-most ks n i h l, L.sum, e)), no_second (all (leb 1) (take n ks))) refl
+  more-fails i left h L e =
+      rw (lt-leb (total ks) heap_objects (omega (arith, (rw take-length at (total-most ks (length ks) i h h)), L.sum, e)), no_second (all (leb 1) ks)) refl
 
-  pub all_fit : (n left : ℕ) → Left ks n left → true ≡ fit_together (take n ks)
+  pub all_fit : (n left : ℕ) → n ≡ length ks → Left ks n left → true ≡ fit_together ks
   unfolding fit_together
-  all_fit n left L = rw (L.each, le-leb (total (take n ks)) heap_objects (omega (arith, L.sum))) refl
+  all_fit n left e L =
+      let t : take n ks ≡ ks = rw e (take-length ks) in
+      rw ((rw t at L.each), le-leb (total ks) heap_objects (omega (arith, (rw t at L.sum)))) refl
 
 -- NUMBER 19
 module _ (n : ℕ) (ks : List ℕ) where

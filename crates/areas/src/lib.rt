@@ -1,7 +1,7 @@
 // The lent areas: whether they have their lengths (number 1), and all their bytes set to 0; the shares of the heap (number 19).
 #![tactic(auto)]
 
-ghost use Rattle.std.specs.Prelude.{◌≡◌, ◌≤◌, length, take};
+ghost use Rattle.std.specs.Prelude.{◌≡◌, length};
 ghost use Rattle.rules.specs.Limits.{most_scripts};
 ghost use Rattle.rules.specs.Joint.{fit_together, shares_fit};
 ghost use Rattle.rules.specs.Areas.{cleared};
@@ -23,23 +23,15 @@ pub fn fit(work: &[u8], other: &[u8], bytes: usize) -> bool
 pub fn clear(area: &mut [u8])
     ensures { area.new ≡ cleared area.old }
 {
-    let mut i = 0;
-    while i < area.len() {
-        area[i] = 0;
-        i += 1;
-    }
+    area.fill(0);
 }
 
-// Is none of the first n shares 0, and do they come to no more objects than the heap has? What is left of it is counted down, so that no
-// sum can wrap.
-fn fit_together(n: usize, shares: &[u32]) -> bool
-    requires { n ≤ length shares.now }
-    ensures { result ≡ fit_together (take n shares.now) }
+// Is none of the shares 0, and do they come to no more objects than the heap has? What is left of it is counted down, so that no sum can wrap.
+fn fit_together(shares: &[u32]) -> bool
+    ensures { result ≡ fit_together shares.now }
 {
     let mut left = Machine::OBJECTS as u32;
-    let mut i = 0;
-    while i < n {
-        let k = shares[i];
+    for &k in shares {
         if k == 0 {
             return false;
         }
@@ -47,7 +39,6 @@ fn fit_together(n: usize, shares: &[u32]) -> bool
             return false;
         }
         left -= k;
-        i += 1;
     }
     true
 }
@@ -64,5 +55,5 @@ pub fn shares_fit(scripts: u32, shares: &[u32]) -> bool
     if n > Machine::SCRIPTS {
         return false;
     }
-    fit_together(n, shares)
+    fit_together(&shares[..n])
 }

@@ -111,24 +111,12 @@ impl Layout {
     }
 }
 
-fn wide(b: u8) -> usize
-    ensures { (result ≡ b) × (result < byte_values) }
-{
-    b as usize
-}
-
-fn wide_word(b: u8) -> u32
-    ensures { (result ≡ b) × (result < byte_values) }
-{
-    b as u32
-}
-
 // One byte of the area.
 pub fn byte_at(w: &[u8], i: usize) -> usize
     requires { i < length w.now }
     ensures { (result ≡ byte_at w.now i) × (result < byte_values) }
 {
-    wide(w[i])
+    usize::from(w[i])
 }
 
 // Two bytes, low byte first.
@@ -136,9 +124,7 @@ pub fn half_at(w: &[u8], i: usize) -> usize
     requires { i + 2 ≤ length w.now }
     ensures { (result ≡ half_at w.now i) × (result < half_values) }
 {
-    let a = byte_at(w, i);
-    let b = byte_at(w, i + 1);
-    a + b * Bytes::VALUES
+    usize::from(u16::from_le_bytes([w[i], w[i + 1]]))
 }
 
 // Four bytes, low byte first.
@@ -146,11 +132,7 @@ pub fn word_at(w: &[u8], i: usize) -> u32
     requires { i + 4 ≤ length w.now }
     ensures { result ≡ word_at w.now i }
 {
-    let a = wide_word(w[i]);
-    let b = wide_word(w[i + 1]);
-    let c = wide_word(w[i + 2]);
-    let d = wide_word(w[i + 3]);
-    a + b * Bytes::SECOND + c * Bytes::THIRD + d * Bytes::FOURTH
+    u32::from_le_bytes([w[i], w[i + 1], w[i + 2], w[i + 3]])
 }
 
 // A statement row but for its target: the number of its kind, its variables, its field, class or method, how many atoms
@@ -176,6 +158,7 @@ pub enum Expr {
     Path(usize, usize),
 }
 
+#[tactic(auto, unfolding(crate::specs::Stores::meaning, crate::specs::Decode::expr_at))]
 fn expr_by(w: &[u8], tag: usize, i: usize) -> Expr
     requires { i + 4 ≤ length w.now }
     ensures { meaning result ≡ expr_at w.now tag i }
@@ -189,6 +172,7 @@ fn expr_by(w: &[u8], tag: usize, i: usize) -> Expr
 }
 
 // The left side of the atom a.
+#[tactic(auto, unfolding(crate::specs::Decode::left_at))]
 pub fn left_at(w: &[u8], a: usize) -> Expr
     requires { (length w.now ≡ work_bytes) × (a < most_atom_rows) }
     ensures { meaning result ≡ left_at w.now a }
@@ -199,6 +183,7 @@ pub fn left_at(w: &[u8], a: usize) -> Expr
 }
 
 // The right side of the atom a.
+#[tactic(auto, unfolding(crate::specs::Decode::right_at))]
 pub fn right_at(w: &[u8], a: usize) -> Expr
     requires { (length w.now ≡ work_bytes) × (a < most_atom_rows) }
     ensures { meaning result ≡ right_at w.now a }

@@ -108,13 +108,6 @@ impl Bytes {
     // how many values a byte has
     pub const VALUES: usize = 256;
 
-    // what the second, the third and the fourth byte of a word count
-    pub const SECOND: u32 = 256;
-
-    pub const THIRD: u32 = 65536;
-
-    pub const FOURTH: u32 = 16777216;
-
     // the bytes of a word
     pub const WORD: usize = 4;
 }

@@ -10,8 +10,5 @@ returns-then-n-eq0 c = none-fail _ _ c.if-n-eq0.true
 pub returns-then-n-gt-SCRIPTS : goal.returns-then-n-gt-SCRIPTS
 returns-then-n-gt-SCRIPTS c = many-fail _ _ c.if-n-gt-SCRIPTS.true
 
-pub fit_together-requires : goal.fit_together-requires
-fit_together-requires c = omega (arith, c.requires)
-
 pub returns : goal.returns
 returns c = c.fit_together.ensures ∙ as-together _ _ c.if-n-eq0.false (omega arith)
