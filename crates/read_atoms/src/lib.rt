@@ -79,7 +79,7 @@ pub fn row_of(kind: usize) -> Row
     }
 }
 
-// The kind of the atom whose word begins with this letter, or 0.
+// The kind of the atom whose word begins with this letter, or 0 and no Option: that is a number of a row too, which has no operands.
 pub fn begun_by(letter: u8) -> usize
     ensures { result ≡ begun_by letter }
 {

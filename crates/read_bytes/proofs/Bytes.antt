@@ -5,11 +5,11 @@ use Prim.Native.Nat.{ℕ, ◌≤◌, ◌<◌}
 use native.Mathlib.Omega.{arith}
 use native.Mathlib.Decide.{dec_lt}
 use lib.Dec.{eqb, leb, ltb}
-use borrow.Author.Tests.{eqb-true, eqb-false, le-leb, lt-leb, le-ltb, lt-ltb, eq-eqb, ne_eqb}
+use borrow.Author.Tests.{eqb-true, le-leb, lt-leb, le-ltb, lt-ltb, ne_eqb}
 use Rattle.rules.specs.Base.{between}
 use Rattle.rules.specs.Text.{allowed, letter, digit, letter_or_digit}
 use Rattle.read_bytes.specs.Sets.{in_set}
-use Rattle.read_bytes.specs.declared.Set.TheVariants.{LineEnd, FieldEnd}
+use Rattle.read_bytes.specs.declared.Set.TheVariants.{LineEnd}
 
 or-false-right : (q : Bool) → (q || false) ≡ q
 or-false-right true = refl
@@ -52,16 +52,3 @@ module _ (b : ℕ) where
   pub line-end-high : 33 ≤ b → in_set LineEnd b ≡ ltb 126 b
   unfolding allowed between
   line-end-high h = rw (ne_eqb b 9 (λ e. omega arith), ne_eqb b 10 (λ e. omega arith), le-leb 33 b h) (not-leb b 126)
-
-  pub field-end-high : 10 < b → in_set FieldEnd b ≡ false
-  field-end-high h = rw (ne_eqb b 9 (λ e. omega arith)) (ne_eqb b 10 (λ e. omega arith))
-
-  pub field-end-low : b ≤ 10 → in_set FieldEnd b ≡ leb 9 b
-  field-end-low h = elim (dec_lt b 9) [
-    | yes l ↦ rw (ne_eqb b 9 (λ e. omega arith), lt-leb 9 b l) (ne_eqb b 10 (λ e. omega arith))
-    | no l ↦ rw (le-leb 9 b (omega arith)) (go (omega arith) (eqb b 9) refl)
-  ]
-    where
-      go : 9 ≤ b → (q : Bool) → eqb b 9 ≡ q → (q || eqb b 10) ≡ true
-      go l true e = refl
-      go l false e = eq-eqb b 10 (omega (arith, eqb-false b 9 e))

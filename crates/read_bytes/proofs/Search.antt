@@ -209,13 +209,6 @@ module _ (p : ℕ → Bool) where
 
 -- COMPARISON
 
--- fields whose rests from i on are the same, and the byte before them
-pub rest_back :
-    (a b : Name) (i j : ℕ) → i ≡ suc j → i ≤ length a → i ≤ length b → get_or a j 0 ≡ get_or b j 0 → drop i a ≡ drop i b → drop j a ≡ drop j b
-rest_back a b i j z h k e r =
-    let q : drop (suc j) a ≡ drop (suc j) b = ap (λ n. drop n a) (sym z) ∙ (r ∙ ap (λ n. drop n b) z) in
-    drop-cons a j 0 (omega arith) ∙ (ap₂ ◌∷◌ e q ∙ sym (drop-cons b j 0 (omega arith)))
-
 pub rest_end : (a b : Name) (i : ℕ) → length a ≤ i → length b ≤ i → drop i a ≡ drop i b
 rest_end a b i h k = rw (drop_of_length-le a {i = i} h, drop_of_length-le b {i = i} k)
 

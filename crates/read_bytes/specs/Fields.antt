@@ -1,5 +1,5 @@
 -- Fields by their lengths.
-use Rattle.std.specs.Prelude.{◌≡◌, Bool, cond, ◌||◌, List, ℕ, ◌+◌, ◌≤◌, leb, length, get_or, take, drop}
+use Rattle.std.specs.Prelude.{Bool, cond, ◌||◌, Option, Some, None, List, ℕ, ◌+◌, leb, length, get_or, take, drop}
 use Rattle.rules.specs.Base.{Name}
 use Rattle.rules.specs.Text.{up_to}
 use Rattle.read_bytes.specs.declared.Set.TheVariants.{FieldEnd}
@@ -16,11 +16,9 @@ first_field l = take (field_length l) l
 abbrev pub ends_field : Name → ℕ → Bool
 ends_field l e = leb (length l) e || in_set FieldEnd (get_or l e 0)
 
--- r is the end of the field that starts at a place, if that field passes a test; else the place itself
-pub record FieldIs (p : Name → Bool) (l : List ℕ) (at r : ℕ) : Type 0 where
-  pub low : at ≤ r
-  pub high : r ≤ length l
-  pub is : r ≡ cond (p (first_field (drop at l))) (at + field_length (drop at l)) at
+-- the end of the field that starts at a place, if that field passes a test
+abbrev pub field_end : (Name → Bool) → List ℕ → ℕ → Option ℕ
+field_end p l at = cond (p (first_field (drop at l))) (Some (at + field_length (drop at l))) None
 
 -- Everything above computes where this unfolds.
 unfoldable pub opened : Unit {0}

@@ -49,13 +49,11 @@ impl Byte {
     pub const VALUES: u64 = 256;
 }
 
+#[tactic(auto, unfolding(rules::specs::Base::opened))]
 fn between(b: u8, a: u8, z: u8) -> bool
     ensures { result ≡ between a z b }
 {
-    if b < a {
-        return false;
-    }
-    b <= z
+    (a..=z).contains(&b)
 }
 
 pub fn is_digit(b: u8) -> bool
@@ -85,7 +83,7 @@ pub fn is_letter_or_digit(b: u8) -> bool
     is_digit(b)
 }
 
-// What a search stops at.
+// What a search stops at. An enum and no closure: the contracts name a set by it (`FirstInSet`), and a search by words has other marks for each.
 #[derive(Clone, Copy)]
 pub enum Set {
     // LF, or a byte that is not allowed
@@ -123,17 +121,15 @@ pub fn find_from(l: &[u8], at: usize, set: Set) -> usize
     requires { at ≤ length l.now }
     ensures { FirstInSet l.now at set result }
 {
-    let mut i = at;
-    while i < l.len() {
+    for i in at..l.len() {
         if in_set(l[i], set) {
             return i;
         }
-        i += 1;
     }
-    i
+    l.len()
 }
 
-// A place from `at` on, up to which no byte is in the set: the first mark in whole words, or their end.
+// A place from `at` on, up to which no byte is in the set: the first mark in whole words, or their end. A `while`: it goes on by whole words.
 fn skip_words(l: &[u8], at: usize, set: Set) -> usize
     requires { at ≤ length l.now }
     ensures { (at ≤ result) × (result ≤ length l.now) × (result + up_to (in_set set) (drop result l.now) ≡ at + up_to (in_set set) (drop at l.now)) }
@@ -184,9 +180,7 @@ fn same_bytes(a: &[u8], b: &[u8]) -> bool
     requires { length a.now ≡ length b.now }
     ensures { result ≡ eq_name a.now b.now }
 {
-    let mut i = a.len();
-    while i != 0 {
-        i -= 1;
+    for i in (0..a.len()).rev() {
         if a[i] != b[i] {
             return false;
         }

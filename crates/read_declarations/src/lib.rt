@@ -13,22 +13,12 @@ ghost use Rattle.read_scan.specs.Table.{WordAt, LineTable};
 ghost use Rattle.read_declarations.specs.Texts.{TextTaken, SpanAfter};
 ghost use Rattle.read_declarations.specs.Declares.{line_with, NameAfter, no_names, TextFits, LineReady, MethodRow, Adds, Declares};
 
-use read_bytes::Set;
 use read_names::{Row, Span};
 use read_scan::Word;
 use read_scopes::Names;
 use rules::Kind;
 
 // FIELDS OF A LINE
-
-fn word_from(text: &[u8], at: usize) -> Word
-    requires { at ≤ length text.now }
-    ensures { WordAt text.now at result }
-{
-    let end = read_bytes::find(text, at, Set::FieldEnd);
-    let kind = read_words::kind_of(&text[at..end]);
-    Word { kind, end }
-}
 
 fn field_from(text: &[u8], r: usize) -> Span
     requires { r ≤ length text.now }
@@ -63,7 +53,7 @@ fn read_word<'a>(r: Reader<'a>) -> Word
     requires { r.at ≤ length r.text.now }
     ensures { WordAt r.entry.text.now r.entry.at result }
 {
-    word_from(r.text, r.at)
+    read_scan::first_word(r.text, r.at)
 }
 
 fn read_field<'a>(r: Reader<'a>) -> Span
@@ -97,10 +87,7 @@ pub fn span_after(text: &[u8], r: usize) -> Span
 fn owner(c: Names) -> usize
     ensures { result ≡ pred c.classes }
 {
-    if c.classes == 0 {
-        return 0;
-    }
-    c.classes - 1
+    c.classes.saturating_sub(1)
 }
 
 fn declare_class(text: &[u8], work: &mut [u8], r: usize, c: Names) -> Names
@@ -178,11 +165,9 @@ pub fn declare(text: &[u8], work: &mut [u8], n: usize) -> Names
     ensures { Declares text.now work.old work.new result × Kept lines_at work_bytes work.old work.new }
 {
     let mut c = no_names();
-    let mut i = 0;
-    while i < n {
+    for i in 0..n {
         let w = read_scan::line_word(work, i);
         c = declare_line(text, work, w.end, w.kind, c);
-        i += 1;
     }
     c
 }

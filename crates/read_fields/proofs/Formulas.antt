@@ -1,10 +1,10 @@
 -- Laws of atoms and formulas at a cursor.
-use mathlib.Core.Path.{◌≡◌, refl, ◌∙◌}
+use mathlib.Core.Path.{◌≡◌, refl, sym, ◌∙◌}
 use mathlib.Core.Bool.{true, false, not, ◌&&◌}
 use mathlib.Core.List.{List, [], ◌∷◌}
 use Prim.Native.Nat.{ℕ, zero, suc, ◌+◌, ◌≤◌, ◌<◌}
 use native.Mathlib.Omega.{arith}
-use lib.Dec.{eqb}
+use lib.Dec.{eqb, eqb-suc-zero}
 use lib.ListN.{length, get_or, drop}
 use borrow.Author.Tests.{eq-eqb}
 use Rattle.rules.specs.Base.{Name}
@@ -18,6 +18,11 @@ pub formula-none : (n : ℕ) (ws : List Name) → ws ≡ [] → is_formula n ws 
 unfolding is_formula
 formula-none zero ws e = rw e
 formula-none (suc n) ws e = rw e
+
+pub formula-zero : (ws : List Name) → is_formula 0 ws ≡ eqb (length ws) 0
+unfolding is_formula
+formula-zero [] = refl
+formula-zero (w ∷ ws) = sym (eqb-suc-zero (length ws))
 
 formula-one : (n : ℕ) (w : Name) → is_formula (suc n) (w ∷ []) ≡ false
 unfolding is_formula

@@ -31,7 +31,7 @@ use Rattle.read_atoms.specs.Atoms.{atom_word, begins_atom, operands_of, atom_row
 use Rattle.read_atoms.proofs.Atoms.{of-atom-word, atom-begins, some_bytes, word-told, word-solid, word-short}
 use Rattle.read_fields.specs.Spans.{Span, FieldFits, operands_then, Spells, HeadIs, AtomHead, AtomEnd, OperandsRead, condition_first}
 use Rattle.read_fields.specs.declared.Head.{Head}
-use Rattle.read_fields.specs.declared.Fields.TheVariants.{Upto, Bad}
+use Rattle.std.proofs.Common.{Option, Some, None}
 use Rattle.read_fields.proofs.Clean.{in_line}
 use Rattle.read_fields.proofs.Cuts.{byte-in, fields-from, no_more, some_more}
 use Rattle.read_fields.proofs.Formulas.{formula-full}
@@ -242,71 +242,63 @@ module _ (t : List ℕ) (r : ℕ) (g : get_or t r 0 ≡ 9) where
       }
 
   -- by the row of that word
-  module _ (q : Row) (e : q ≡ atom_row kind) (s : Bool) (f : Spells t (r + 1) q.word q.bytes s) (h : Head) where
-    by_row : s ≡ stands
-    unfolding atom_row
-    by_row = f begun (word-solid kind) (ap (λ q. q.word) e) (ap (λ q. q.bytes) e) ∙ rw e
-
-    pub head-none : s ≡ false → h.operands ≡ 0 → AtomHead t r h
-    head-none i z = record { none = λ j. unspelled (λ w x. true-false (sym (spelled-stands w x) ∙ (sym by_row ∙ i))); some = λ j. absurd (j z) }
-
-    pub head-some : s ≡ true → h.operands ≡ q.operands → h.end ≡ r + 1 + q.bytes → AtomHead t r h
+  module _ (q : Row) (e : q ≡ atom_row kind) where
+    number : (b : Bool) → begins_atom begun ≡ b → q.operands ≡ operands_number (cond b (atom_operands begun) [])
     unfolding atom_row operands_of operands_number
-    head-some i m z = go (begins_atom begun) refl
-      where
-        here : stands ≡ true
-        here = sym by_row ∙ i
+    number b w = ap (λ q. q.operands) e ∙ rw w
 
-        end : h.end ≡ r + 1 + length begun
-        end = z ∙ rw e
+    pub head-empty : q.operands ≡ 0 → AtomHead t r None
+    head-empty z = unspelled (λ w x. operands-some begun (sym (number true w) ∙ z))
 
-        number : (b : Bool) → begins_atom begun ≡ b → h.operands ≡ operands_number (cond b (atom_operands begun) [])
-        number b w = m ∙ (ap (λ q. q.operands) e ∙ rw w)
+    module _ (s : Bool) (f : Spells t (r + 1) q.word q.bytes s) where
+      by_row : s ≡ stands
+      unfolding atom_row
+      by_row = f begun (word-solid kind) (ap (λ q. q.word) e) (ap (λ q. q.bytes) e) ∙ rw e
 
-        go : (b : Bool) → begins_atom begun ≡ b → AtomHead t r h
-        go false w = record { none = λ j. unspelled (λ v x. true-false (sym v ∙ w)); some = λ j. absurd (j (number false w)) }
-        go true w =
+      pub head-none : s ≡ false → AtomHead t r None
+      head-none i = unspelled (λ w x. true-false (sym (spelled-stands w x) ∙ (sym by_row ∙ i)))
+
+      pub head-some : s ≡ true → (h : Head) → (h.operands ≡ 0 → ⊥) → h.operands ≡ q.operands → h.end ≡ r + 1 + q.bytes → AtomHead t r (Some h)
+      unfolding atom_row operands_number
+      head-some i h k m z = (k, go (begins_atom begun) refl)
+        where
+          here : stands ≡ true
+          here = sym by_row ∙ i
+
+          end : h.end ≡ r + 1 + length begun
+          end = z ∙ rw e
+
+          go : (b : Bool) → begins_atom begun ≡ b → (os : List Operand) × HeadIs t r h os
+          go false w = absurd (k (m ∙ number false w))
+          go true w = (
+            atom_operands begun,
             record {
-              none = λ j. absurd (operands-some begun (sym (number true w) ∙ j));
-              some = λ j. (
-                atom_operands begun,
-                record {
-                  number = number true w;
-                  high = omega (arith, end, leb-true (r + 1 + length begun) (length t) (both_true (leb (r + 1 + length begun) (length t)) _ here).0);
-                  later = omega (arith, end);
-                  span = λ k. subst (Span t r) (sym end) (word-span t r g begun w (at-tab k));
-                  is = λ n. ⊎_elim
-                      (λ k. ap (is_formula (suc n)) (word_more t r g begun w (at-tab k)) ∙ (word-then begun w _ n ∙ rw end))
-                      (λ k. unspelled (λ w x. k (rw end x.after)) n ∙ sym (ap (operands_then (atom_operands begun) (is_formula n)) (no_more t h.end k) ∙ some-operands (atom_operands begun) (operands-some begun) (is_formula n)))
-                      (decide_eq (get_or t h.end 0) 9);
-                },
-              );
-            }
-          where
-            at-tab : get_or t h.end 0 ≡ 9 → Spelled t r begun
-            at-tab k = stands-spelled here (rw (← end) k)
+              number = m ∙ number true w;
+              high = omega (arith, end, leb-true (r + 1 + length begun) (length t) (both_true (leb (r + 1 + length begun) (length t)) _ here).0);
+              later = omega (arith, end);
+              span = λ k. subst (Span t r) (sym end) (word-span t r g begun w (at-tab k));
+              is = λ n. ⊎_elim
+                  (λ k. ap (is_formula (suc n)) (word_more t r g begun w (at-tab k)) ∙ (word-then begun w _ n ∙ rw end))
+                  (λ k. unspelled (λ w x. k (rw end x.after)) n ∙ sym (ap (operands_then (atom_operands begun) (is_formula n)) (no_more t h.end k) ∙ some-operands (atom_operands begun) (operands-some begun) (is_formula n)))
+                  (decide_eq (get_or t h.end 0) 9);
+            },
+          )
+            where
+              at-tab : get_or t h.end 0 ≡ 9 → Spelled t r begun
+              at-tab k = stands-spelled here (rw (← end) k)
 
 -- AN ATOM
-module _ {t : List ℕ} {r : ℕ} where
-  pub atom-none : ((n : ℕ) → is_formula (suc n) (more (drop r t)) ≡ false) → AtomEnd t r r
-  atom-none f = record { none = λ e. f; some = λ e. absurd (e refl) }
-
-  module _ {h : Head} {os : List Operand} (x : HeadIs t r h os) where
-    pub atom-bad : OperandsRead os t h.end Bad → AtomEnd t r r
-    atom-bad f = atom-none (λ n. x.is n ∙ f (is_formula n))
-
-    pub atom-some : (h.operands ≡ 0 → ⊥) → (e : ℕ) → OperandsRead os t h.end (Upto e) → AtomEnd t r e
-    atom-some n e f =
-        record {
-          none = λ z. absurd (omega (arith, x.later, f.0.low));
-          some = λ z. (span-on (x.span tab) f.0, λ n. x.is n ∙ f.1 (is_formula n));
-        }
-      where
-        tab : get_or t h.end 0 ≡ 9
-        tab =
-            ⊎_elim (λ i. i)
-            (λ i. true-false (sym (f.1 (λ vs. true)) ∙ (ap (operands_then os (λ vs. true)) (no_more t h.end i) ∙ some-operands os (λ z. n (x.number ∙ z)) _)))
-            (decide_eq (get_or t h.end 0) 9)
+pub atom-by :
+    {t : List ℕ} {r : ℕ} {h : Head} {os : List Operand} → HeadIs t r h os → (h.operands ≡ 0 → ⊥) → (f : Option ℕ) →
+    OperandsRead os t h.end f → AtomEnd t r f
+atom-by {t} {r} {h} {os} x n (Some e) f = (span-on (x.span tab) f.0, λ n. x.is n ∙ f.1 (is_formula n))
+  where
+    tab : get_or t h.end 0 ≡ 9
+    tab =
+        ⊎_elim (λ i. i)
+        (λ i. true-false (sym (f.1 (λ vs. true)) ∙ (ap (operands_then os (λ vs. true)) (no_more t h.end i) ∙ some-operands os (λ z. n (x.number ∙ z)) _)))
+        (decide_eq (get_or t h.end 0) 9)
+atom-by x n None f = λ n. x.is n ∙ f (is_formula n)
 
 -- CONDITIONS
 pub condition-then : (n : ℕ) (ws : List Name) → (is_condition (take 3 ws) && is_formula n (drop 3 ws)) ≡ condition_first (suc n) ws

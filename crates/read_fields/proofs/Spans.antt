@@ -13,16 +13,15 @@ use Rattle.rules.specs.Base.{Name, all}
 use Rattle.rules.specs.Text.{up_to, allowed, is_name, is_expr}
 use Rattle.rules.specs.Grammar.{Operand, Tail, form, is_operand, is_tail, is_formed}
 use Rattle.read_bytes.specs.Sets.{in_set, FirstInSet}
-use Rattle.read_bytes.specs.Fields.{first_field, field_length, FieldIs}
+use Rattle.read_bytes.specs.Fields.{first_field, field_length, field_end}
 use Rattle.read_bytes.specs.declared.Set.TheVariants.{LineEnd, FieldEnd}
-use Rattle.read_bytes.proofs.Search.{all-at, up_to-found, up_to-is}
+use Rattle.read_bytes.proofs.Search.{all-at, up_to-found, up_to-is, up_to-within}
 use Rattle.read_bytes.proofs.Fields.{unfit, fit, field_cut}
 use Rattle.read_fields.specs.Cuts.{part, more}
 use Rattle.read_grammar.specs.Rows.{kind_numbered, operand_number, operands_number, tail_number, fits_operand, fits_tail}
 use Rattle.read_fields.specs.Spans.{EndsField, Span, first_fits, FieldFits, NextFit, operands_then, OperandsRead, FieldsRead, formed_as}
-use Rattle.read_fields.specs.declared.Fields.{Fields}
-use Rattle.read_fields.specs.declared.Fields.TheVariants.{Upto, Bad}
-use Rattle.read_fields.proofs.Cuts.{fields_first, fields-from, no_more, some_more, more-tab}
+use Rattle.std.proofs.Common.{Option, Some, None}
+use Rattle.read_fields.proofs.Cuts.{byte-in, fields_first, fields-from, no_more, some_more, more-tab}
 use Rattle.read_grammar.proofs.Rows.{operand-bounds, operand-is, tail-is}
 use Rattle.read_fields.proofs.Clean.{in_line, name-clean, expr-clean}
 
@@ -93,54 +92,44 @@ module _ {p : Name → Bool} {t : List ℕ} {r e : ℕ} (x : FieldFits p t r e) 
         ends = λ y. field-ends x.end;
       }
 
-module _ (p : Name → Bool) (t : List ℕ) (r : ℕ) (h : r ≤ length t) where
-  no-fit : first_fits p (more (drop r t)) ≡ false → NextFit p t r r
-  no-fit e = record { high = h; none = λ z. e; some = λ z. absurd (z refl) }
+module _ (p : Name → Bool) (t : List ℕ) (r : ℕ) where
+  pub no-tab : (get_or t r 0 ≡ 9 → ⊥) → NextFit p t r None
+  no-tab n = rw (no_more t r n)
 
-  pub no-tab : (get_or t r 0 ≡ 9 → ⊥) → NextFit p t r r
-  no-tab n = no-fit (rw (no_more t r n))
-
-  module _ (no_bytes : p [] ≡ false) (g : get_or t r 0 ≡ 9) (e : ℕ) (f : FieldIs p t (r + 1) e) where
-    found : (n : ℕ) → n ≡ r + 1 + field_length (drop (r + 1) t) → n ≤ length t → FirstInSet t (r + 1) FieldEnd n
+  module _ (g : get_or t r 0 ≡ 9) where
+    found : (n : ℕ) → n ≡ r + 1 + field_length (drop (r + 1) t) → FirstInSet t (r + 1) FieldEnd n
     unfolding field_length
-    found n i l = record { low = omega (arith, i); high = l; is = i }
+    found n i =
+        let h = byte-in t r 9 (omega arith) g in
+        record { low = omega (arith, i); high = omega (arith, i, up_to-within (in_set FieldEnd) (drop (r + 1) t), length-drop (r + 1) t); is = i }
 
-    pub next-unfit : e ≡ r + 1 → NextFit p t r r
+    -- the field after the tab, by its end
+    pub next-by : (f : Option ℕ) → f ≡ field_end p t (r + 1) → NextFit p t r f
     unfolding first_field field_length
-    next-unfit z = no-fit (rw (some_more t r g, fields_first (drop (r + 1) t)) (unfit p no_bytes t (r + 1) e f z))
-
-    pub next_fits : (e ≡ r + 1 → ⊥) → NextFit p t r e
-    next_fits z =
-        let (q, i) = fit p no_bytes t (r + 1) e f z in
-        let d = found e i f.high in
-        record {
-          high = f.high;
-          none = λ y. absurd (omega (arith, f.low));
-          some = λ y. record { tab = g; end = d; fits = sym (field_cut p t (r + 1) e d.is) ∙ q };
-        }
+    next-by (Some e) z =
+        let (q, i) = fit p t (r + 1) e z in
+        let d = found e i in
+        record { tab = g; end = d; fits = sym (field_cut p t (r + 1) e d.is) ∙ q }
+    next-by None z = rw (some_more t r g, fields_first (drop (r + 1) t)) (unfit p t (r + 1) z)
 
 -- a test that says the same
-next-as : {p q : Name → Bool} {t : List ℕ} {r e : ℕ} → ((w : Name) → q w ≡ p w) → NextFit p t r e → NextFit q t r e
-next-as {p} {q} {t} {r} {e} f x =
-    record {
-      high = x.high;
-      none = λ z. same (more (drop r t)) ∙ x.none z;
-      some = λ z. record { tab = (x.some z).tab; end = (x.some z).end; fits = f _ ∙ (x.some z).fits };
-    }
+next-as : (p q : Name → Bool) (t : List ℕ) (r : ℕ) → ((w : Name) → q w ≡ p w) → (f : Option ℕ) → NextFit p t r f → NextFit q t r f
+next-as p q t r k (Some e) x = record { tab = x.tab; end = x.end; fits = k _ ∙ x.fits }
+next-as p q t r k None x = same (more (drop r t)) ∙ x
   where
     same : (ws : List Name) → first_fits q ws ≡ first_fits p ws
     same [] = refl
-    same (w ∷ ws) = f w
+    same (w ∷ ws) = k w
 
 -- OPERANDS
-module _ {t : List ℕ} {r e n : ℕ} where
-  pub operand-expr : n ≡ 11 → NextFit is_expr t r e → NextFit (fits_operand n) t r e
+module _ (t : List ℕ) (r n : ℕ) (g : get_or t r 0 ≡ 9) (f : Option ℕ) where
+  pub operand-expr : n ≡ 11 → f ≡ field_end is_expr t (r + 1) → NextFit (fits_operand n) t r f
   unfolding fits_operand
-  operand-expr h = next-as (λ w. rw (eq-eqb n 11 h))
+  operand-expr h z = next-as is_expr (fits_operand n) t r (λ w. rw (eq-eqb n 11 h)) f (next-by is_expr t r g f z)
 
-  pub operand-name : (n ≡ 11 → ⊥) → NextFit is_name t r e → NextFit (fits_operand n) t r e
+  pub operand-name : (n ≡ 11 → ⊥) → f ≡ field_end is_name t (r + 1) → NextFit (fits_operand n) t r f
   unfolding fits_operand
-  operand-name h = next-as (λ w. rw (ne_eqb n 11 h))
+  operand-name h z = next-as is_name (fits_operand n) t r (λ w. rw (ne_eqb n 11 h)) f (next-by is_name t r g f z)
 
 operand-clean : (n : ℕ) (w : Name) → fits_operand n w ≡ true → all in_line w ≡ true
 unfolding fits_operand
@@ -161,7 +150,7 @@ pub walk_start : {os : List Operand} {t : List ℕ} {from n : ℕ} → from ≤ 
 walk_start {os} h e = record { left = os; number = e; span = span_none h; is = λ k. refl }
 
 module _ {os : List Operand} {t : List ℕ} {from n r : ℕ} (x : Walk os t from n r) where
-  pub walk-done : n ≡ 0 → OperandsRead os t from (Upto r)
+  pub walk-done : n ≡ 0 → OperandsRead os t from (Some r)
   unfolding operands_then operands_number
   walk-done e = (x.span, λ k. x.is k ∙ go x.left x.number k)
     where
@@ -170,7 +159,7 @@ module _ {os : List Operand} {t : List ℕ} {from n r : ℕ} (x : Walk os t from
       go (o ∷ ls) h k = absurd (omega (arith, operand-bounds o))
 
   module _ (l : n ≡ 0 → ⊥) where
-    pub walk-bad : first_fits (fits_operand (n % 16)) (more (drop r t)) ≡ false → OperandsRead os t from Bad
+    pub walk-bad : first_fits (fits_operand (n % 16)) (more (drop r t)) ≡ false → OperandsRead os t from None
     unfolding operands_then operands_number
     walk-bad f k = x.is k ∙ go x.left x.number (more (drop r t)) f
       where
@@ -202,15 +191,22 @@ module _ {os : List Operand} {t : List ℕ} {from n r : ℕ} (x : Walk os t from
 
 -- tests that say the same of the fields after r
 pub read_as :
-    (p q : List Name → Bool) (t : List ℕ) (r : ℕ) (f : Fields) → q (more (drop r t)) ≡ p (more (drop r t)) → FieldsRead p t r f → FieldsRead q t r f
-read_as p q t r (Upto e) h x = (x.0, h ∙ x.1, x.2)
-read_as p q t r Bad h x = h ∙ x
+    (p q : List Name → Bool) (t : List ℕ) (r : ℕ) (f : Option ℕ) → q (more (drop r t)) ≡ p (more (drop r t)) → FieldsRead p t r f → FieldsRead q t r f
+read_as p q t r (Some e) h x = (x.0, h ∙ x.1, x.2)
+read_as p q t r None h x = h ∙ x
+
+-- fields after r, at which those after `from` arrive
+pub read-on :
+    (p q : List Name → Bool) (t : List ℕ) (from r : ℕ) (f : Option ℕ) → Span t from r → q (more (drop from t)) ≡ p (more (drop r t)) → FieldsRead p t r f →
+    FieldsRead q t from f
+read-on p q t from r (Some e) s h x = (span-on s x.0, h ∙ x.1, x.2)
+read-on p q t from r None s h x = h ∙ x
 
 module _ (t : List ℕ) (r : ℕ) where
-  pub none_read : r ≤ length t → (get_or t r 0 ≡ 9 → ⊥) → FieldsRead (λ ws. eqb (length ws) 0) t r (Upto r)
+  pub none_read : r ≤ length t → (get_or t r 0 ≡ 9 → ⊥) → FieldsRead (λ ws. eqb (length ws) 0) t r (Some r)
   none_read h n = (span_none h, rw (no_more t r n), n)
 
-  pub some_read : get_or t r 0 ≡ 9 → FieldsRead (λ ws. eqb (length ws) 0) t r Bad
+  pub some_read : get_or t r 0 ≡ 9 → FieldsRead (λ ws. eqb (length ws) 0) t r None
   some_read g = more-tab t r ∙ rw (eq-eqb _ 9 g)
 
 formed-then : (os : List Operand) (l : Tail) (ws : List Name) → is_formed os l ws ≡ operands_then os (is_tail l) ws
@@ -232,13 +228,12 @@ module _ (k : ℕ) (n : k ≡ 0 → ⊥) (t : List ℕ) (r : ℕ) where
   formed-by : formed_as k (more (drop r t)) ≡ operands_then (form (kind_numbered k)).operands (is_tail (form (kind_numbered k)).tail) (more (drop r t))
   formed-by = formed-as k _ n ∙ formed-then (form (kind_numbered k)).operands (form (kind_numbered k)).tail (more (drop r t))
 
-  pub fields-bad : OperandsRead (form (kind_numbered k)).operands t r Bad → FieldsRead (formed_as k) t r Bad
-  fields-bad x = formed-by ∙ x (is_tail (form (kind_numbered k)).tail)
+  pub fields-none : OperandsRead (form (kind_numbered k)).operands t r None → FieldsRead (formed_as k) t r None
+  fields-none x = formed-by ∙ x (is_tail (form (kind_numbered k)).tail)
 
-  module _ (m : ℕ) (x : OperandsRead (form (kind_numbered k)).operands t r (Upto m)) (l : ℕ) (e : l ≡ tail_number (form (kind_numbered k)).tail) where
+  module _ (m : ℕ) (x : OperandsRead (form (kind_numbered k)).operands t r (Some m)) (l : ℕ) (e : l ≡ tail_number (form (kind_numbered k)).tail) where
     then : formed_as k (more (drop r t)) ≡ fits_tail l (more (drop m t))
     then = formed-by ∙ (x.1 (is_tail (form (kind_numbered k)).tail) ∙ (tail-is (form (kind_numbered k)).tail _ ∙ rw e))
 
-    pub fields-upto : (f : Fields) → FieldsRead (fits_tail l) t m f → FieldsRead (formed_as k) t r f
-    fields-upto (Upto z) y = (span-on x.0 y.0, then ∙ y.1, y.2)
-    fields-upto Bad y = then ∙ y
+    pub fields-upto : (f : Option ℕ) → FieldsRead (fits_tail l) t m f → FieldsRead (formed_as k) t r f
+    fields-upto f = read-on (fits_tail l) (formed_as k) t r m f x.0 then

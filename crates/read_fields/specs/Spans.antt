@@ -1,5 +1,5 @@
 -- Fields read one after the other: what is read, and where it ends.
-use Rattle.std.specs.Prelude.{◌≡◌, Bool, true, false, not, ◌&&◌, List, [], ◌∷◌, ℕ, suc, ◌+◌, ◌≤◌, ◌<◌, eqb, leb, length, get_or, drop}
+use Rattle.std.specs.Prelude.{◌≡◌, Option, Some, None, Bool, true, false, not, ◌&&◌, List, [], ◌∷◌, ℕ, suc, ◌+◌, ◌≤◌, ◌<◌, eqb, leb, length, get_or, drop}
 use Rattle.rules.specs.Base.{Name, all, eq_name, between}
 use Rattle.rules.specs.Text.{tab, is_rel, is_formula}
 use Rattle.rules.specs.Grammar.{Operand, form, is_operand, is_formed}
@@ -9,8 +9,6 @@ use Rattle.read_words.specs.Words.{packed}
 use Rattle.read_fields.specs.Cuts.{part, more}
 use Rattle.read_grammar.specs.Rows.{kind_numbered, operands_number}
 use Rattle.read_fields.specs.declared.Head.{Head}
-use Rattle.read_fields.specs.declared.Fields.{Fields}
-use Rattle.read_fields.specs.declared.Fields.TheVariants.{Upto, Bad}
 
 -- A field ends at e: a tab, LF or the text's end is there.
 abbrev pub EndsField : List ℕ → ℕ → Type 0
@@ -36,11 +34,10 @@ pub record FieldFits (p : Name → Bool) (t : List ℕ) (r e : ℕ) : Type 0 whe
   pub end : FirstInSet t (r + 1) FieldEnd e
   pub fits : p (part (r + 1) e t) ≡ true
 
--- After a field that ends at r, the next passes the test p and ends at e; e is r where there is none that does.
-pub record NextFit (p : Name → Bool) (t : List ℕ) (r e : ℕ) : Type 0 where
-  pub high : e ≤ length t
-  pub none : e ≡ r → first_fits p (more (drop r t)) ≡ false
-  pub some : (e ≡ r → ⊥) → FieldFits p t r e
+-- After a field that ends at r, the next passes the test p and ends at e; or there is none that does.
+abbrev pub NextFit : (Name → Bool) → List ℕ → ℕ → Option ℕ → Type 0
+NextFit p t r (Some e) = FieldFits p t r e
+NextFit p t r None = first_fits p (more (drop r t)) ≡ false
 
 -- OPERANDS
 
@@ -51,12 +48,12 @@ operands_then (o ∷ os) k [] = false
 operands_then (o ∷ os) k (w ∷ ws) = let r : Bool = operands_then os k ws in is_operand o w && r
 
 -- The operands after r end at a place, and the fields after it decide; or they are not there.
-abbrev pub OperandsRead : List Operand → List ℕ → ℕ → Fields → Type 0
-OperandsRead os t r (Upto e) = Span t r e × ((k : List Name → Bool) → operands_then os k (more (drop r t)) ≡ k (more (drop e t)))
-OperandsRead os t r Bad = (k : List Name → Bool) → operands_then os k (more (drop r t)) ≡ false
+abbrev pub OperandsRead : List Operand → List ℕ → ℕ → Option ℕ → Type 0
+OperandsRead os t r (Some e) = Span t r e × ((k : List Name → Bool) → operands_then os k (more (drop r t)) ≡ k (more (drop e t)))
+OperandsRead os t r None = (k : List Name → Bool) → operands_then os k (more (drop r t)) ≡ false
 
 -- The same of the operands with a number.
-abbrev pub OperandsEnd : ℕ → List ℕ → ℕ → Fields → Type 0
+abbrev pub OperandsEnd : ℕ → List ℕ → ℕ → Option ℕ → Type 0
 OperandsEnd n t r f = (os : List Operand) → n ≡ operands_number os → OperandsRead os t r f
 
 -- ATOMS
@@ -74,15 +71,15 @@ pub record HeadIs (t : List ℕ) (r : ℕ) (h : Head) (os : List Operand) : Type
   pub span : get_or t h.end 0 ≡ tab → Span t r h.end
   pub is : (n : ℕ) → is_formula (suc n) (more (drop r t)) ≡ operands_then os (is_formula n) (more (drop h.end t))
 
--- how the atom begins whose word follows the tab at r; it is none where its operands' number is 0
-pub record AtomHead (t : List ℕ) (r : ℕ) (h : Head) : Type 0 where
-  pub none : h.operands ≡ 0 → (n : ℕ) → is_formula (suc n) (more (drop r t)) ≡ false
-  pub some : (h.operands ≡ 0 → ⊥) → (os : List Operand) × HeadIs t r h os
+-- how the atom begins whose word follows the tab at r, if there is one; it has operands
+abbrev pub AtomHead : List ℕ → ℕ → Option Head → Type 0
+AtomHead t r (Some h) = (h.operands ≡ 0 → ⊥) × ((os : List Operand) × HeadIs t r h os)
+AtomHead t r None = (n : ℕ) → is_formula (suc n) (more (drop r t)) ≡ false
 
--- After the tab at r, an atom ends at e; e is r where there is none.
-pub record AtomEnd (t : List ℕ) (r e : ℕ) : Type 0 where
-  pub none : e ≡ r → (n : ℕ) → is_formula (suc n) (more (drop r t)) ≡ false
-  pub some : (e ≡ r → ⊥) → Span t r e × ((n : ℕ) → is_formula (suc n) (more (drop r t)) ≡ is_formula n (more (drop e t)))
+-- After the tab at r, an atom ends at e; or there is none.
+abbrev pub AtomEnd : List ℕ → ℕ → Option ℕ → Type 0
+AtomEnd t r (Some e) = Span t r e × ((n : ℕ) → is_formula (suc n) (more (drop r t)) ≡ is_formula n (more (drop e t)))
+AtomEnd t r None = (n : ℕ) → is_formula (suc n) (more (drop r t)) ≡ false
 
 -- a condition and then atoms, at most n in all
 unfoldable pub condition_first : ℕ → List Name → Bool
@@ -91,9 +88,9 @@ condition_first n ws = is_rel (get_or ws 0 []) && is_formula n ws
 -- ALL FIELDS OF A LINE
 
 -- The fields after r pass a test, and the last ends at a place that has no tab; or they do not pass.
-abbrev pub FieldsRead : (List Name → Bool) → List ℕ → ℕ → Fields → Type 0
-FieldsRead q t r (Upto e) = Span t r e × (q (more (drop r t)) ≡ true) × (get_or t e 0 ≡ tab → ⊥)
-FieldsRead q t r Bad = q (more (drop r t)) ≡ false
+abbrev pub FieldsRead : (List Name → Bool) → List ℕ → ℕ → Option ℕ → Type 0
+FieldsRead q t r (Some e) = Span t r e × (q (more (drop r t)) ≡ true) × (get_or t e 0 ≡ tab → ⊥)
+FieldsRead q t r None = q (more (drop r t)) ≡ false
 
 -- these fields are those of a line of the kind with this number; 0 is no kind's
 unfoldable pub formed_as : ℕ → List Name → Bool

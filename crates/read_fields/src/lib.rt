@@ -2,7 +2,7 @@
 #![tactic(auto)]
 
 ghost use Rattle.std.specs.Prelude.{◌≡◌, ◌+◌, ◌≤◌, eqb, length, get_or};
-ghost use Rattle.rules.specs.Text.{tab, is_name, is_expr, is_formula};
+ghost use Rattle.rules.specs.Text.{tab, is_formula};
 ghost use Rattle.rules.specs.Grammar.{IsKindNumber};
 ghost use Rattle.read_bytes.specs.Marks.{wide_bytes};
 ghost use Rattle.read_fields.specs.Cuts.{NextField};
@@ -26,95 +26,53 @@ pub fn next_field(t: &[u8], r: usize) -> usize
     read_bytes::find(t, r + 1, Set::FieldEnd)
 }
 
-// The end of the field after the one that ends at r, if that field is a name; else r.
-fn next_name(t: &[u8], r: usize) -> usize
-    requires { r ≤ length t.now }
-    ensures { NextFit is_name t.now r result }
-{
-    if read_bytes::byte_at(t, r) != Byte::TAB {
-        return r;
-    }
-    let a = r + 1;
-    let e = read_tokens::name_end(t, a);
-    if e == a { r } else { e }
-}
-
-// The same of an expression.
-fn next_expr(t: &[u8], r: usize) -> usize
-    requires { r ≤ length t.now }
-    ensures { NextFit is_expr t.now r result }
-{
-    if read_bytes::byte_at(t, r) != Byte::TAB {
-        return r;
-    }
-    let a = r + 1;
-    let e = read_tokens::expr_end(t, a);
-    if e == a { r } else { e }
-}
-
-// The same of the operand with this number.
-fn next_operand(operand: u32, t: &[u8], r: usize) -> usize
+// The end of the field after the one that ends at r, if it is the operand with this number.
+fn next_operand(operand: u32, t: &[u8], r: usize) -> Option<usize>
     requires { r ≤ length t.now }
     ensures { NextFit (fits_operand operand) t.now r result }
 {
-    if operand == OperandNumber::EXPRESSION {
-        return next_expr(t, r);
+    if read_bytes::byte_at(t, r) != Byte::TAB {
+        return None;
     }
-    next_name(t, r)
+    let a = r + 1;
+    if operand == OperandNumber::EXPRESSION {
+        return read_tokens::expr_end(t, a);
+    }
+    read_tokens::name_end(t, a)
 }
 
-// Where fields that have their form end.
-#[derive(Clone, Copy)]
-pub enum Fields {
-    Upto(usize),
-    Bad,
-}
-
-// The operands after the field that ends at `from`, by their number.
-fn operands_end(t: &[u8], from: usize, operands: u32) -> Fields
+// Where the operands after the field that ends at `from` end, by their number.
+fn operands_end(t: &[u8], from: usize, operands: u32) -> Option<usize>
     requires { from ≤ length t.now }
     ensures { OperandsEnd operands t.now from result }
 {
     let mut left = operands;
     let mut r = from;
     while left != 0 {
-        let e = next_operand(left % OperandNumber::BASE, t, r);
-        if e == r {
-            return Fields::Bad;
-        }
-        r = e;
+        r = next_operand(left % OperandNumber::BASE, t, r)?;
         left = left / OperandNumber::BASE;
     }
-    Fields::Upto(r)
+    Some(r)
 }
 
 // No field after r.
-fn no_fields(t: &[u8], r: usize) -> Fields
+fn no_fields(t: &[u8], r: usize) -> Option<usize>
     requires { r ≤ length t.now }
     ensures { FieldsRead (λ ws. eqb (length ws) 0) t.now r result }
 {
     if read_bytes::byte_at(t, r) != Byte::TAB {
-        return Fields::Upto(r);
+        return Some(r);
     }
-    Fields::Bad
+    None
 }
 
 // ATOMS
 
-// How an atom begins: the number of the operands after its word, or 0 where the word is none of an atom; and the word's end.
+// How an atom begins: the number of the operands after its word, and the word's end.
 #[derive(Clone, Copy)]
 struct Head {
     pub operands: u32,
     pub end: usize,
-}
-
-fn no_head(r: usize) -> Head
-    ensures { result.operands ≡ 0 }
-{
-    Head {
-        operands: 0,
-        end: r,
-    }
 }
 
 // Do the bytes from a on spell this word, of so many bytes?
@@ -131,69 +89,59 @@ fn is_spelled(t: &[u8], a: usize, word: u64, bytes: usize) -> bool
 
 // The word after the tab at r, by the row of the atom that its first letter begins. Whether its field ends there shows where the next
 // begins.
-fn atom_head(t: &[u8], r: usize) -> Head
+fn atom_head(t: &[u8], r: usize) -> Option<Head>
     requires { get_or t.now r 0 ≡ tab }
     ensures { AtomHead t.now r result }
 {
     let a = r + 1;
     let row = read_atoms::row_of(read_atoms::begun_by(read_bytes::byte_at(t, a)));
-    if !is_spelled(t, a, row.word, row.bytes) {
-        return no_head(r);
+    if row.operands == 0 {
+        return None;
     }
-    Head {
+    if !is_spelled(t, a, row.word, row.bytes) {
+        return None;
+    }
+    Some(Head {
         operands: row.operands,
         end: a + row.bytes,
-    }
+    })
 }
 
-// The end of the atom after the tab at r, or r where there is none.
-fn atom_end(t: &[u8], r: usize) -> usize
+// The end of the atom after the tab at r.
+fn atom_end(t: &[u8], r: usize) -> Option<usize>
     requires { get_or t.now r 0 ≡ tab }
     ensures { AtomEnd t.now r result }
 {
-    let h = atom_head(t, r);
-    if h.operands == 0 {
-        return r;
-    }
-    let f = operands_end(t, h.end, h.operands);
-    match f {
-        Fields::Upto(e) => e,
-        Fields::Bad => r,
-    }
+    let h = atom_head(t, r)?;
+    operands_end(t, h.end, h.operands)
 }
 
 // The fields after `from`, if they are at most so many atoms.
-fn formula_end(t: &[u8], from: usize, most: usize) -> Fields
+fn formula_end(t: &[u8], from: usize, most: usize) -> Option<usize>
     requires { from ≤ length t.now }
     ensures { FieldsRead (is_formula most) t.now from result }
 {
     let mut r = from;
-    let mut n = most;
-    while read_bytes::byte_at(t, r) == Byte::TAB {
-        if n == 0 {
-            return Fields::Bad;
+    for _ in 0..most {
+        if read_bytes::byte_at(t, r) != Byte::TAB {
+            return Some(r);
         }
-        let e = atom_end(t, r);
-        if e == r {
-            return Fields::Bad;
-        }
-        r = e;
-        n -= 1;
+        r = atom_end(t, r)?;
     }
-    Fields::Upto(r)
+    no_fields(t, r)
 }
 
 // The fields after r, if they are a condition and then atoms, at most so many in all.
-fn condition_end(t: &[u8], r: usize, most: usize) -> Fields
+fn condition_end(t: &[u8], r: usize, most: usize) -> Option<usize>
     requires { r ≤ length t.now }
     ensures { FieldsRead (condition_first most) t.now r result }
 {
     if read_bytes::byte_at(t, r) != Byte::TAB {
-        return Fields::Bad;
+        return None;
     }
     let row = read_atoms::row_of(read_atoms::begun_by(read_bytes::byte_at(t, r + 1)));
     if !row.condition {
-        return Fields::Bad;
+        return None;
     }
     formula_end(t, r, most)
 }
@@ -204,7 +152,7 @@ fn condition_end(t: &[u8], r: usize, most: usize) -> Fields
 const LOOP_ATOMS: usize = 1 + Machine::ATOMS;
 
 // The fields after r, if they are the tail with this number.
-fn tail_end(tail: u32, t: &[u8], r: usize) -> Fields
+fn tail_end(tail: u32, t: &[u8], r: usize) -> Option<usize>
     requires { r ≤ length t.now }
     ensures { FieldsRead (fits_tail tail) t.now r result }
 {
@@ -217,14 +165,11 @@ fn tail_end(tail: u32, t: &[u8], r: usize) -> Fields
 }
 
 // The fields after the word, which ends at `from`, if they are those of a line of this kind.
-pub fn fields_end(t: &[u8], from: usize, kind: u8) -> Fields
+pub fn fields_end(t: &[u8], from: usize, kind: u8) -> Option<usize>
     requires { (from ≤ length t.now) × IsKindNumber kind }
     ensures { FieldsRead (formed_as kind) t.now from result }
 {
     let row = read_grammar::row_of(kind);
-    let f = operands_end(t, from, row.operands);
-    match f {
-        Fields::Bad => Fields::Bad,
-        Fields::Upto(r) => tail_end(row.tail, t, r),
-    }
+    let r = operands_end(t, from, row.operands)?;
+    tail_end(row.tail, t, r)
 }

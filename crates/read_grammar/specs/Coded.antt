@@ -59,20 +59,6 @@ branches_after k n =
     (cond (eqb k again_kind) (n / 4)
     n))))
 
--- the same place at another stage
-unfoldable pub at_stage : ℕ → Place → Place
-at_stage n s =
-    record {
-      stage = n;
-      main = s.main;
-      branches = s.branches;
-      classes = s.classes;
-      fields = s.fields;
-      methods = s.methods;
-      locals = s.locals;
-      statements = s.statements;
-    }
-
 unfoldable pub place_after : ℕ → Place → Place
 place_after k s =
     record {
@@ -102,5 +88,5 @@ pub record AfterWithin (k : ℕ) (q : Place) : Type 0 where
 
 -- Everything above computes where this unfolds.
 unfoldable pub opened : Unit {0}
-unfolding branch_number branches_number coded fits in_place stage_after branches_after at_stage place_after within_limits
+unfolding branch_number branches_number coded fits in_place stage_after branches_after place_after within_limits
 opened = tt

@@ -54,7 +54,7 @@ impl TailNumber {
     pub const FORMULA: u32 = 2;
 }
 
-// The stages that no row of a kind leads to, by their numbers.
+// The stages that no row of a kind leads to, by their numbers; no enum, since a stage is a digit of a kind's row (`stage_number`).
 #[derive(Clone, Copy)]
 pub struct Stage {}
 

@@ -1,10 +1,9 @@
 // Where a line may stand, and the limits of the text (4, 5).
 ghost use Rattle.std.specs.Prelude.{◌≡◌, true, ◌≤◌, ◌<◌};
-ghost use Rattle.rules.specs.Limits.{most_classes, most_fields, most_methods, most_locals};
-ghost use Rattle.rules.specs.Grammar.{form, first_statement, IsKindNumber, class_kind, field_kind, method_kind, main_kind, var_kind};
+ghost use Rattle.rules.specs.Grammar.{form, first_statement, IsKindNumber};
 ghost use Rattle.rules.specs.Places.{first_place, stage_number};
 ghost use Rattle.read_grammar.specs.Rows.{kind_numbered};
-ghost use Rattle.read_grammar.specs.Coded.{open_limit, coded, fits, in_place, stage_after, branches_after, at_stage, place_after, within_limits, AfterWithin};
+ghost use Rattle.read_grammar.specs.Coded.{open_limit, coded, fits, in_place, stage_after, branches_after, place_after, within_limits, AfterWithin};
 
 use crate::{Place, Stage};
 use rules::{Kind, Machine};
@@ -96,106 +95,6 @@ fn branches_after(kind: u8, n: usize) -> usize
     }
 }
 
-// One class more, with no field yet.
-fn with_class(p: Place, stage: u32) -> Place
-    requires { p.classes ≤ most_classes }
-    ensures { result ≡ at_stage stage (place_after class_kind p) }
-{
-    Place {
-        stage,
-        main: p.main,
-        branches: p.branches,
-        classes: p.classes + 1,
-        fields: 0,
-        methods: p.methods,
-        locals: p.locals,
-        statements: p.statements,
-    }
-}
-
-// One field more.
-fn with_field(p: Place, stage: u32) -> Place
-    requires { p.fields ≤ most_fields }
-    ensures { result ≡ at_stage stage (place_after field_kind p) }
-{
-    Place {
-        stage,
-        main: p.main,
-        branches: p.branches,
-        classes: p.classes,
-        fields: p.fields + 1,
-        methods: p.methods,
-        locals: p.locals,
-        statements: p.statements,
-    }
-}
-
-// One method more, with no local yet.
-fn with_method(p: Place, stage: u32) -> Place
-    requires { p.methods ≤ most_methods }
-    ensures { result ≡ at_stage stage (place_after method_kind p) }
-{
-    Place {
-        stage,
-        main: p.main,
-        branches: p.branches,
-        classes: p.classes,
-        fields: p.fields,
-        methods: p.methods + 1,
-        locals: 0,
-        statements: p.statements,
-    }
-}
-
-// The same place at another stage.
-fn with_stage(p: Place, stage: u32) -> Place
-    ensures { result ≡ at_stage stage p }
-{
-    Place {
-        stage,
-        main: p.main,
-        branches: p.branches,
-        classes: p.classes,
-        fields: p.fields,
-        methods: p.methods,
-        locals: p.locals,
-        statements: p.statements,
-    }
-}
-
-// `main`, with no local yet.
-fn with_main(p: Place, stage: u32) -> Place
-    ensures { result ≡ at_stage stage (place_after main_kind p) }
-{
-    Place {
-        stage,
-        main: true,
-        branches: p.branches,
-        classes: p.classes,
-        fields: p.fields,
-        methods: p.methods,
-        locals: 0,
-        statements: p.statements,
-    }
-}
-
-// One local more.
-fn with_local(p: Place, stage: u32) -> Place
-    requires { p.locals ≤ most_locals }
-    ensures { result ≡ at_stage stage (place_after var_kind p) }
-{
-    Place {
-        stage,
-        main: p.main,
-        branches: p.branches,
-        classes: p.classes,
-        fields: p.fields,
-        methods: p.methods,
-        locals: p.locals + 1,
-        statements: p.statements,
-    }
-}
-
 // One statement more, which may open or close a branch or a loop, or end the body.
 fn with_statement(p: Place, kind: u8, next: u32) -> Place
     requires { (first_statement ≤ kind) × (next ≡ stage_number (form (kind_numbered kind)).next) × (within_limits p ≡ true) }
@@ -205,13 +104,9 @@ fn with_statement(p: Place, kind: u8, next: u32) -> Place
     let branches = branches_after(kind, p.branches);
     Place {
         stage,
-        main: p.main,
         branches,
-        classes: p.classes,
-        fields: p.fields,
-        methods: p.methods,
-        locals: p.locals,
         statements: p.statements + 1,
+        ..p
     }
 }
 
@@ -220,15 +115,37 @@ pub fn place_after(kind: u8, p: Place) -> Place
     ensures { result ≡ place_after kind p }
 {
     let row = crate::row_of(kind);
+    let stage = row.next;
+    let q = Place { stage, ..p };
     match kind {
-        Kind::CLASS => with_class(p, row.next),
-        Kind::FIELD => with_field(p, row.next),
-        Kind::METHOD => with_method(p, row.next),
-        Kind::REQUIRES => with_stage(p, row.next),
-        Kind::ENSURES => with_stage(p, row.next),
-        Kind::MAIN => with_main(p, row.next),
-        Kind::VAR => with_local(p, row.next),
-        _ => with_statement(p, kind, row.next),
+        // with no field yet
+        Kind::CLASS => Place {
+            classes: p.classes + 1,
+            fields: 0,
+            ..q
+        },
+        Kind::FIELD => Place {
+            fields: p.fields + 1,
+            ..q
+        },
+        // with no local yet
+        Kind::METHOD => Place {
+            methods: p.methods + 1,
+            locals: 0,
+            ..q
+        },
+        Kind::REQUIRES => q,
+        Kind::ENSURES => q,
+        Kind::MAIN => Place {
+            main: true,
+            locals: 0,
+            ..q
+        },
+        Kind::VAR => Place {
+            locals: p.locals + 1,
+            ..q
+        },
+        _ => with_statement(p, kind, stage),
     }
 }
 

@@ -40,7 +40,7 @@ pub fn same_name(text: &[u8], s: Span, u: Span) -> bool
     read_bytes::same(read_names::name_in(text, s), read_names::name_in(text, u))
 }
 
-// The number of the first class that is named x; the count of classes if there is none.
+// The number of the first class that is named x; the count of classes if there is none (`class_number`).
 pub fn class_number(text: &[u8], work: &[u8], c: Names, x: &[u8]) -> usize
     requires { (length work.now ≡ work_bytes) × NamesFit c }
     ensures { (result ≡ class_number (declarations_in text.now work.now c) x.now) × (result ≤ c.classes) }
@@ -96,7 +96,7 @@ fn own_variable(text: &[u8], work: &[u8], from: usize, n: usize, res: bool, x: &
     read_names::NO_VARIABLE
 }
 
-// The number of the variable that is named x, or NO_VARIABLE.
+// The number of the variable that is named x, or NO_VARIABLE and no Option: `variable_number` of the rules numbers every name.
 pub fn variable(text: &[u8], work: &[u8], c: Names, x: &[u8]) -> usize
     requires { (length work.now ≡ work_bytes) × NamesFit c }
     ensures { Looked text.now work.now (variables_in text.now work.now c) x.now result }

@@ -9,7 +9,8 @@ ghost use Rattle.read_lookups.specs.LookUps.{field_index};
 use read_names::Span;
 use read_scopes::Names;
 
-// The type of the field i.
+// The type of the field i. Three functions alike, of a field, a result and a parameter: one for all would need their rows and columns as
+// closures, and a contract of its own.
 pub fn field_gives(work: &[u8], c: Names, i: usize) -> Span
     requires { (length work.now ≡ work_bytes) × NamesFit c }
     ensures { (t : List ℕ) → name_in t result ≡ (get_or (declarations_in t work.now c).fields i no_field).type }

@@ -9,8 +9,8 @@ use lib.ListN.{length}
 use borrow.Author.Tests.{eqb-true, eqb-false, eq-eqb, ne_eqb}
 use Rattle.rules.specs.Base.{Name, eq_name}
 use Rattle.read_bytes.proofs.Search.{not_same}
-use Rattle.read_names.specs.Rows.{name_in, no_span, owner_at, written_at, key_of, key_at, name_at, entry_at, is_entry, NextKey, any_owner}
-use Rattle.read_names.proofs.Searches.{At, begin, on, past}
+use Rattle.read_names.specs.Rows.{name_in, no_span, owner_at, written_at, key_of, key_at, name_at, entry_at, is_entry, NoKey, any_owner}
+use Rattle.read_names.proofs.Searches.{At, past}
 
 module _ (t w : List ℕ) (i : ℕ) where
   -- the name as it is written
@@ -50,27 +50,9 @@ module _ (t w : List ℕ) (i : ℕ) where
     unfolding is_entry entry_at
     other_key c o = rw (other_name o) (and-false (eqb c any_owner || eqb (owner_at w i) c))
 
--- THE SEARCH BY KEYS
-module _ (t w : List ℕ) (first n o : ℕ) (x : Name) where
-  -- It goes on at the row i, which has the key of x if there is one.
-  pub record Search (i : ℕ) : Type 0 where
-    pub within : i ≤ n
-    pub at : At (is_entry o x) (entry_at t w) first n i
-    pub key : i < n → key_at w (first + i) ≡ key_of x
-
-  module _ (k : ℕ) (some : 0 < length x) (e : k ≡ key_of x) where
-    next : (i j : ℕ) → NextKey w first n i k j → At (is_entry o x) (entry_at t w) first n i → Search j
-    next i j y a =
-        record {
-          within = y.high;
-          at =
-              past (is_entry o x) (entry_at t w) first n i j y.low y.high
-              (λ m b l. other_key t w (first + m) x some o (λ z. y.none m l b (z ∙ sym e))) a;
-          key = λ l. y.found l ∙ e;
-        }
-
-    pub at_first : (j : ℕ) → NextKey w first n 0 k j → Search j
-    at_first j y = next 0 j y (begin _ _ _ _)
-
-    pub at_next : (i j : ℕ) → Search i → i < n → is_entry o x (entry_at t w (first + i)) ≡ false → NextKey w first n (i + 1) k j → Search j
-    at_next i j s l f y = next (i + 1) j y (on _ _ _ _ i s.at l f)
+-- THE SEARCH BY KEYS: rows that have another key are passed
+pub keys_passed :
+    (t w : List ℕ) (first n o : ℕ) (x : Name) (k : ℕ) → 0 < length x → k ≡ key_of x → (i j : ℕ) → i ≤ j → j ≤ n → NoKey w first i k j →
+    At (is_entry o x) (entry_at t w) first n i → At (is_entry o x) (entry_at t w) first n j
+keys_passed t w first n o x k some e i j l h y =
+    past (is_entry o x) (entry_at t w) first n i j l h (λ m b c. other_key t w (first + m) x some o (λ z. y m c b (z ∙ sym e)))

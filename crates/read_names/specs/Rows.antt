@@ -1,5 +1,5 @@
 -- Rows of names in the work area: where each stands, what it holds, and what is written.
-use Rattle.std.specs.Prelude.{◌≡◌, Bool, cond, ◌&&◌, ◌||◌, List, ℕ, ◌+◌, ◌-◌, ◌*◌, ◌%◌, ◌≤◌, ◌<◌, eqb, ltb, length, get_or, take, drop}
+use Rattle.std.specs.Prelude.{◌≡◌, Option, Some, None, Bool, cond, ◌&&◌, ◌||◌, List, ℕ, ◌+◌, ◌-◌, ◌*◌, ◌%◌, ◌≤◌, ◌<◌, eqb, ltb, length, get_or, take, drop}
 use Rattle.rules.specs.Base.{Name, eq_name}
 use Rattle.tables.specs.Layout.{names_at}
 use Rattle.tables.specs.Decode.{byte_at, half_at}
@@ -96,12 +96,21 @@ any_owner = 255
 unfoldable pub is_entry : ℕ → Name → Entry → Bool
 is_entry c x e = (eqb c any_owner || eqb e.owner c) && eq_name e.name x
 
--- of n rows from i on, r is the first from the row `from` on that has the key k; n if there is none
-pub record NextKey (w : List ℕ) (i n from k r : ℕ) : Type 0 where
+-- of the rows from i on, none from the row `from` up to the row r has the key k
+abbrev pub NoKey : List ℕ → ℕ → ℕ → ℕ → ℕ → Type 0
+NoKey w i from k r = (j : ℕ) → j < r → from ≤ j → key_at w (i + j) ≡ k → ⊥
+
+-- of n rows from i on, r is the first from the row `from` on that has the key k
+pub record KeyFound (w : List ℕ) (i n from k r : ℕ) : Type 0 where
   pub low : from ≤ r
-  pub high : r ≤ n
-  pub none : (j : ℕ) → j < r → from ≤ j → key_at w (i + j) ≡ k → ⊥
-  pub found : r < n → key_at w (i + r) ≡ k
+  pub high : r < n
+  pub none : NoKey w i from k r
+  pub found : key_at w (i + r) ≡ k
+
+-- that row, or there is none
+abbrev pub NextKey : List ℕ → ℕ → ℕ → ℕ → ℕ → Option ℕ → Type 0
+NextKey w i n from k (Some r) = KeyFound w i n from k r
+NextKey w i n from k None = NoKey w i from k n
 
 -- WHAT IS WRITTEN
 

@@ -217,29 +217,25 @@ fn find_each(text: &[u8], work: &[u8], first: usize, count: usize, owner: usize,
     requires { (length work.now ≡ work_bytes) × (first + count ≤ most_rows) }
     ensures { (result ≡ index (is_entry owner x.now) (run (entry_at text.now work.now) first count)) × (result ≤ count) }
 {
-    let mut i = 0;
-    while i < count {
+    for i in 0..count {
         if is_row(text, work, first + i, owner, x) {
             return i;
         }
-        i += 1;
     }
-    i
+    count
 }
 
-// From the row `from` of a range on, the first that has this key; the range's length if there is none.
-fn next_key(work: &[u8], first: usize, count: usize, from: usize, k: usize) -> usize
+// From the row `from` of a range on, the first that has this key.
+fn next_key(work: &[u8], first: usize, count: usize, from: usize, k: usize) -> Option<usize>
     requires { (length work.now ≡ work_bytes) × (first + count ≤ most_rows) × (from ≤ count) }
     ensures { NextKey work.now first count from k result }
 {
-    let mut i = from;
-    while i < count {
+    for i in from..count {
         if key_at(work, first + i) == k {
-            return i;
+            return Some(i);
         }
-        i += 1;
     }
-    i
+    None
 }
 
 // Is the row i, which has the key of x, named x, and of this owner?
@@ -260,17 +256,18 @@ fn find_keyed(text: &[u8], work: &[u8], first: usize, count: usize, owner: usize
     ensures { (result ≡ index (is_entry owner x.now) (run (entry_at text.now work.now) first count)) × (result ≤ count) }
 {
     let k = key(x);
-    let mut i = next_key(work, first, count, 0, k);
-    while i < count {
+    let mut from = 0;
+    while let Some(i) = next_key(work, first, count, from, k) {
         if is_keyed_row(text, work, first + i, owner, x) {
             return i;
         }
-        i = next_key(work, first, count, i + 1, k);
+        from = i + 1;
     }
-    i
+    count
 }
 
-// Where in a range of rows the first that is named x, and of this owner, stands; the range's length if there is none.
+// Where in a range of rows the first that is named x, and of this owner, stands; the range's length if there is none, and no Option: the
+// contract is the rules' `index`.
 pub fn find(text: &[u8], work: &[u8], first: usize, count: usize, owner: usize, x: &[u8]) -> usize
     requires { (length work.now ≡ work_bytes) × (first + count ≤ most_rows) }
     ensures { (result ≡ index (is_entry owner x.now) (run (entry_at text.now work.now) first count)) × (result ≤ count) }

@@ -6,7 +6,7 @@ ghost use Rattle.rules.specs.Base.{all};
 ghost use Rattle.rules.specs.Syntax.{sign};
 ghost use Rattle.rules.specs.Text.{digit, minuses, is_number, number, decimal};
 ghost use Rattle.read_bytes.specs.Marks.{wide_bytes, eight};
-ghost use Rattle.read_bytes.specs.Fields.{ends_field, FieldIs};
+ghost use Rattle.read_bytes.specs.Fields.{ends_field, field_end};
 ghost use Rattle.read_numbers.specs.Numbers.{most_digits, Begun, TenDigits, led, in_range};
 
 use read_bytes::{Byte, Wide};
@@ -91,10 +91,8 @@ fn value_of(w: &[u8]) -> u64
 {
     let first = first_value(w);
     let mut n = first.value;
-    let mut i = first.end;
-    while i < w.len() {
+    for i in first.end..w.len() {
         n = n * BASE + (w[i] - Byte::ZERO) as u64;
-        i += 1;
     }
     n
 }
@@ -158,16 +156,14 @@ fn digits_from(l: &[u8], at: usize) -> Digits
     let stop = digits_stop(l, at);
     let first = first_digits(l, at);
     let mut value = first.value;
-    let mut end = first.end;
-    while end < stop {
+    for end in first.end..stop {
         let b = l[end];
         if !read_bytes::is_digit(b) {
             return Digits { value, end };
         }
         value = value * BASE + (b - Byte::ZERO) as u64;
-        end += 1;
     }
-    Digits { value, end }
+    Digits { value, end: stop }
 }
 
 // Are there digits from a place on to an end, with no leading zero?
@@ -208,17 +204,17 @@ fn is_written(l: &[u8], from: usize, d: Digits, minuses: u8) -> bool
     read_bytes::ends_field(l, d.end)
 }
 
-// The end of the field that starts at `at`, if that field is a number; else `at`.
-pub fn number_end(l: &[u8], at: usize) -> usize
+// The end of the field that starts at `at`, if that field is a number.
+pub fn number_end(l: &[u8], at: usize) -> Option<usize>
     requires { at ≤ length l.now }
-    ensures { FieldIs is_number l.now at result }
+    ensures { result ≡ field_end is_number l.now at }
 {
     let minuses = minuses_at(l, at);
     let from = at + minuses as usize;
     let d = digits_from(l, from);
     if is_written(l, from, d, minuses) {
-        d.end
+        Some(d.end)
     } else {
-        at
+        None
     }
 }

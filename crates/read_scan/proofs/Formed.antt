@@ -15,9 +15,8 @@ use Rattle.read_scan.specs.declared.Word.{Word}
 use Rattle.read_grammar.specs.declared.Place.{Place}
 use Rattle.read_scan.specs.declared.Refusal.{Refusal}
 use Rattle.read_scan.specs.declared.Refusal.TheVariants.{BadByte, Malformed}
-use Rattle.read_fields.specs.declared.Fields.TheVariants.{Upto, Bad}
-use Rattle.read_scan.specs.declared.ScannedLine.{ScannedLine}
-use Rattle.read_scan.specs.declared.ScannedLine.TheVariants.{Next, Refused}
+use Rattle.std.proofs.Common.{Some, None, Result, Ok, Err}
+use Rattle.read_scan.specs.declared.NextLine.{NextLine}
 use Rattle.read_fields.specs.Cuts.{part, more}
 use Rattle.read_grammar.specs.Rows.{formed_kind}
 use Rattle.read_fields.specs.Spans.{FieldsRead, formed_as}
@@ -38,14 +37,14 @@ module _ {t : List ℕ} {a : ℕ} {w : Word} (x : FirstWord t a w) where
   pub kind-most : w.kind ≤ last_kind
   kind-most = most-kind (kind_of (part a w.end t)) w.kind x.kind
 
-  pub unformed-line : FieldsRead (formed_as w.kind) t w.end Bad → Unformed t a
+  pub unformed-line : FieldsRead (formed_as w.kind) t w.end None → Unformed t a
   unformed-line f =
       ⊎_elim
       (no_kind _ _ _ cut w.kind x.kind)
       (λ n. unformed _ _ _ cut w.kind x.kind n (sym (formed-as w.kind _ n) ∙ f))
       (decide_eq w.kind 0)
 
-  module _ {e : ℕ} (f : FieldsRead (formed_as w.kind) t w.end (Upto e)) where
+  module _ {e : ℕ} (f : FieldsRead (formed_as w.kind) t w.end (Some e)) where
     pub has-kind : w.kind ≡ 0 → ⊥
     has-kind z = true-false (sym f.1 ∙ formed-none w.kind _ z)
 
@@ -70,9 +69,9 @@ module _ {t : List ℕ} {a : ℕ} {w : Word} (x : FirstWord t a w) where
 -- THE ANSWER ON A LINE
 
 -- what holds of e holds of a line that has its LF there
-pub when-at : (P : ℕ → Type 0) (e : ℕ) (r : ScannedLine) → P e → WhenTaken (λ i. i ≡ e) r → WhenTaken P r
-when-at P e (Next i s) x z = subst P (sym z) x
-when-at P e (Refused q) x z = tt
+pub when-at : (P : ℕ → Type 0) (e : ℕ) (r : Result NextLine Refusal) → P e → WhenTaken (λ i. i ≡ e) r → WhenTaken P r
+when-at P e (Ok n) x z = subst P (sym z) x
+when-at P e (Err q) x z = tt
 
 module _ {t : List ℕ} {a e : ℕ} (f : FirstInSet t a LineEnd e) where
   pub refuses-byte : a < length t → (get_or t e 0 ≡ 10 → ⊥) → RefusesLine t a BadByte
@@ -85,7 +84,7 @@ module _ {t : List ℕ} {a e : ℕ} (f : FirstInSet t a LineEnd e) where
         rw (first-clean t a e l) (sym (unformed-scan p _ l.clean (ap (λ ws. kind_or0 (formed_kind ws)) l.fields ∙ u)))
 
     pub places-line :
-        (k : ℕ) → k ≡ kind_or0 (formed_kind (fields (drop a t))) → (k ≡ 0 → ⊥) → {s : Place} {r : ScannedLine} → PlacesLineTo s k e r → ScansLine t a s r
+        (k : ℕ) → k ≡ kind_or0 (formed_kind (fields (drop a t))) → (k ≡ 0 → ⊥) → {s : Place} {r : Result NextLine Refusal} → PlacesLineTo s k e r → ScansLine t a s r
     places-line k i n {s} {r} y =
         let l = clean_line t a e f g in
         record {
@@ -93,14 +92,15 @@ module _ {t : List ℕ} {a e : ℕ} (f : FirstInSet t a LineEnd e) where
           ends = when-at (λ i. FirstInSet t a LineEnd i × (get_or t i 0 ≡ 10)) e r (f, g) y.1;
         }
 
-pub refuses-line : {t : List ℕ} {a : ℕ} {s : Place} {r : Refusal} → RefusesLine t a r → ScansLine t a s (Refused r)
+pub refuses-line : {t : List ℕ} {a : ℕ} {s : Place} {r : Refusal} → RefusesLine t a r → ScansLine t a s (Err r)
 refuses-line x = record { is = λ p e. x p; ends = tt }
 
 -- a line that is taken: its LF, and its word in the table
 pub taken-ends :
-    {t : List ℕ} {a : ℕ} {s q : Place} {r : ScannedLine} {e : ℕ} → ScansLine t a s r → r ≡ Next e q → FirstInSet t a LineEnd e × (get_or t e 0 ≡ 10)
+    {t : List ℕ} {a : ℕ} {s : Place} {r : Result NextLine Refusal} {n : NextLine} → ScansLine t a s r → r ≡ Ok n →
+    FirstInSet t a LineEnd n.feed × (get_or t n.feed 0 ≡ 10)
 taken-ends {t} {a} x z = subst (WhenTaken (λ i. FirstInSet t a LineEnd i × (get_or t i 0 ≡ 10))) z x.ends
 
 pub taken-noted :
-    {t w w' : List ℕ} {a n : ℕ} {q : Place} {r : ScannedLine} {e : ℕ} → NotesLine t w a n r w' → r ≡ Next e q → Noted t w a e n w'
+    {t w w' : List ℕ} {a n : ℕ} {r : Result NextLine Refusal} {x : NextLine} → NotesLine t w a n r w' → r ≡ Ok x → Noted t w a x.feed n w'
 taken-noted {t} {w} {w'} {a} {n} x z = subst (WhenTaken (λ i. Noted t w a i n w')) z x.noted

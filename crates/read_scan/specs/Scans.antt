@@ -1,5 +1,5 @@
 -- What the answers of the pass mean: the refusal of each case, and the verdict on the text.
-use Rattle.std.specs.Prelude.{◌≡◌, Bool, List, [], ℕ, length, drop, get_or}
+use Rattle.std.specs.Prelude.{◌≡◌, Result, Ok, Err, Bool, List, [], ℕ, length, drop, get_or}
 use Rattle.rules.specs.Base.{Name, Try, ok, no, check, ◌>>=◌, ◌>>◌, with_default}
 use Rattle.rules.specs.Answers.{Verdict, accepted, refused, then, bad_byte, malformed, limit_passed, text_ends}
 use Rattle.rules.specs.Answers as Answers
@@ -17,12 +17,8 @@ use Rattle.read_grammar.specs.Coded.{coded}
 use Rattle.read_scan.specs.declared.Refusal.{Refusal}
 use Rattle.read_scan.specs.declared.Refusal.TheVariants.{BadByte, Malformed, LimitPassed, TextEnds}
 use Rattle.read_grammar.specs.declared.Place.{Place}
-use Rattle.read_scan.specs.declared.Placing.{Placing}
-use Rattle.read_scan.specs.declared.Placing.TheVariants.{Next, Refused}
-use Rattle.read_scan.specs.declared.ScannedLine.{ScannedLine}
-use Rattle.read_scan.specs.declared.ScannedLine.TheVariants as ScannedLine
-use Rattle.read_scan.specs.declared.Scanned.{Scanned}
-use Rattle.read_scan.specs.declared.Scanned.TheVariants as Scanned
+use Rattle.read_scan.specs.declared.NextLine.{NextLine}
+use Rattle.read_scan.specs.declared.RefusedLine.{RefusedLine}
 
 abbrev pub refusal_of : Refusal → Answers.Refusal
 refusal_of BadByte = bad_byte
@@ -30,29 +26,29 @@ refusal_of Malformed = malformed
 refusal_of LimitPassed = limit_passed
 refusal_of TextEnds = text_ends
 
-abbrev pub answer_of : Placing → Try Answers.Refusal Place
-answer_of (Next s) = ok s
-answer_of (Refused r) = no (refusal_of r)
+abbrev pub answer_of : Result Place Refusal → Try Answers.Refusal Place
+answer_of (Ok s) = ok s
+answer_of (Err r) = no (refusal_of r)
 
 -- the answer on a line: is it in place, and are the limits kept after it?
 unfoldable pub next_place : Bool → Bool → Place → Try Answers.Refusal Place
 next_place b w q = check b malformed >> (check w limit_passed >> ok q)
 
 -- The answer r is that on a line of kind k at each place that s stands for.
-abbrev pub PlacesLine : Place → ℕ → Placing → Type 0
+abbrev pub PlacesLine : Place → ℕ → Result Place Refusal → Type 0
 PlacesLine s k r = (p : Places.Place) → s ≡ coded p → answer_of r ≡ (place_line p (kind_numbered k) >>= λ q. ok (coded q))
 
-abbrev pub line_answer : ScannedLine → Try Answers.Refusal Place
-line_answer (ScannedLine.Next e s) = ok s
-line_answer (ScannedLine.Refused r) = no (refusal_of r)
+abbrev pub line_answer : Result NextLine Refusal → Try Answers.Refusal Place
+line_answer (Ok n) = ok n.place
+line_answer (Err r) = no (refusal_of r)
 
 -- What holds of the place of a line's LF, where the line is taken.
-abbrev pub WhenTaken : (ℕ → Type 0) → ScannedLine → Type 0
-WhenTaken P (ScannedLine.Next e s) = P e
-WhenTaken P (ScannedLine.Refused r) = Unit {0}
+abbrev pub WhenTaken : (ℕ → Type 0) → Result NextLine Refusal → Type 0
+WhenTaken P (Ok n) = P n.feed
+WhenTaken P (Err r) = Unit {0}
 
 -- The same as `PlacesLine`, of a line with its LF at e.
-abbrev pub PlacesLineTo : Place → ℕ → ℕ → ScannedLine → Type 0
+abbrev pub PlacesLineTo : Place → ℕ → ℕ → Result NextLine Refusal → Type 0
 PlacesLineTo s k e r =
     ((p : Places.Place) → s ≡ coded p → line_answer r ≡ (place_line p (kind_numbered k) >>= λ q. ok (coded q))) × WhenTaken (λ i. i ≡ e) r
 
@@ -65,14 +61,14 @@ abbrev pub RefusesLine : List ℕ → ℕ → Refusal → Type 0
 RefusesLine t a r = (p : Places.Place) → no (refusal_of r) ≡ (scan_line p (first_line (drop a t)) >>= λ x. ok (coded x.next))
 
 -- The answer r is that on the line of t that begins at a.
-pub record ScansLine (t : List ℕ) (a : ℕ) (s : Place) (r : ScannedLine) : Type 0 where
+pub record ScansLine (t : List ℕ) (a : ℕ) (s : Place) (r : Result NextLine Refusal) : Type 0 where
   pub is : (p : Places.Place) → s ≡ coded p → line_answer r ≡ (scan_line p (first_line (drop a t)) >>= λ x. ok (coded x.next))
   pub ends : WhenTaken (λ e. FirstInSet t a LineEnd e × (get_or t e 0 ≡ line_feed)) r
 
 -- a text that is taken by the count of its lines
-abbrev pub verdict_of : Scanned → Verdict ℕ
-verdict_of (Scanned.Taken n) = accepted n
-verdict_of (Scanned.Refused r l) = refused (refusal_of r) l
+abbrev pub verdict_of : Result ℕ RefusedLine → Verdict ℕ
+verdict_of (Ok n) = accepted n
+verdict_of (Err e) = refused (refusal_of e.why) e.line
 
 unfoldable pub scan_text : List ℕ → Verdict ℕ
 scan_text t = then (scan_lines (lines t) 0 first_place) λ ls. accepted (length ls)

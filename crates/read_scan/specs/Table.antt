@@ -1,5 +1,5 @@
 -- The word that a line begins with, and the table of lines that pass 1 keeps in the work area.
-use Rattle.std.specs.Prelude.{◌≡◌, List, [], ℕ, zero, suc, ◌+◌, ◌*◌, ◌≤◌, ◌<◌, length, get_or, drop}
+use Rattle.std.specs.Prelude.{◌≡◌, Result, Ok, Err, List, [], ℕ, zero, suc, ◌+◌, ◌*◌, ◌≤◌, ◌<◌, length, get_or, drop}
 use Rattle.rules.specs.Text.{fields, up_to}
 use Rattle.rules.specs.Grammar.{kind_of}
 use Rattle.read_bytes.specs.Sets.{in_set, FirstInSet}
@@ -11,9 +11,9 @@ use Rattle.tables.specs.Stores.{put_byte, put_half, Kept}
 use Rattle.read_fields.specs.Cuts.{part, more}
 use Rattle.read_scan.specs.Scans.{WhenTaken}
 use Rattle.read_scan.specs.declared.Word.{Word}
-use Rattle.read_scan.specs.declared.ScannedLine.{ScannedLine}
-use Rattle.read_scan.specs.declared.Scanned.{Scanned}
-use Rattle.read_scan.specs.declared.Scanned.TheVariants.{Taken, Refused}
+use Rattle.read_scan.specs.declared.Refusal.{Refusal}
+use Rattle.read_scan.specs.declared.NextLine.{NextLine}
+use Rattle.read_scan.specs.declared.RefusedLine.{RefusedLine}
 
 -- A LINE'S WORD
 
@@ -69,9 +69,9 @@ pub record LineTable (t w : List ℕ) (n : ℕ) : Type 0 where
   pub all : length t ≤ start_of t n
 
 -- the table of a text that is taken
-abbrev pub TableOf : List ℕ → List ℕ → Scanned → Type 0
-TableOf t w (Taken n) = LineTable t w n
-TableOf t w (Refused r l) = Unit {0}
+abbrev pub TableOf : List ℕ → List ℕ → Result ℕ RefusedLine → Type 0
+TableOf t w (Ok n) = LineTable t w n
+TableOf t w (Err e) = Unit {0}
 
 -- ONE LINE
 
@@ -82,6 +82,6 @@ pub record Noted (t w : List ℕ) (a e n : ℕ) (w' : List ℕ) : Type 0 where
   pub others : Kept lines_at (line_place n) w w'
 
 -- A line that is taken is noted.
-pub record NotesLine (t w : List ℕ) (a n : ℕ) (r : ScannedLine) (w' : List ℕ) : Type 0 where
+pub record NotesLine (t w : List ℕ) (a n : ℕ) (r : Result NextLine Refusal) (w' : List ℕ) : Type 0 where
   pub size : length w' ≡ length w
   pub noted : WhenTaken (λ e. Noted t w a e n w') r

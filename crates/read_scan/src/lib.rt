@@ -11,7 +11,6 @@ ghost use Rattle.read_fields.specs.Spans.{FieldsRead, formed_as};
 ghost use Rattle.read_scan.specs.Table.{FirstWord, least_line, most_lines, word_in, put_line, NotesLine, TableOf};
 
 use read_bytes::{Byte, Set};
-use read_fields::Fields;
 use read_grammar::{Place, Stage};
 use tables::Layout;
 
@@ -23,7 +22,7 @@ pub struct Word {
 }
 
 // The word of the line that begins at a place.
-fn first_word(t: &[u8], at: usize) -> Word
+pub fn first_word(t: &[u8], at: usize) -> Word
     requires { at ≤ length t.now }
     ensures { FirstWord t.now at result }
 {
@@ -33,12 +32,12 @@ fn first_word(t: &[u8], at: usize) -> Word
 }
 
 // Where the fields of a line with this word end; a word of kind 0 begins none.
-fn line_fields(t: &[u8], w: Word) -> Fields
+fn line_fields(t: &[u8], w: Word) -> Option<usize>
     requires { (w.end ≤ length t.now) × (w.kind ≤ last_kind) }
     ensures { FieldsRead (formed_as w.kind) t.now w.end result }
 {
     if w.kind == 0 {
-        return Fields::Bad;
+        return None;
     }
     read_fields::fields_end(t, w.end, w.kind)
 }
@@ -52,28 +51,21 @@ pub enum Refusal {
     TextEnds,
 }
 
-// The place after a line, or why the line is refused.
-#[derive(Clone, Copy)]
-pub enum Placing {
-    Next(Place),
-    Refused(Refusal),
-}
-
 // 4, "line out of place", is tested before 5, "a limit of the text passed".
-fn next_place(in_place: bool, within: bool, next: Place) -> Placing
+fn next_place(in_place: bool, within: bool, next: Place) -> Result<Place, Refusal>
     ensures { answer_of result ≡ next_place in_place within next }
 {
     if in_place {
         if within {
-            return Placing::Next(next);
+            return Ok(next);
         }
-        return Placing::Refused(Refusal::LimitPassed);
+        return Err(Refusal::LimitPassed);
     }
-    Placing::Refused(Refusal::Malformed)
+    Err(Refusal::Malformed)
 }
 
 // The place after a line of this kind.
-pub fn place_line(p: Place, kind: u8) -> Placing
+pub fn place_line(p: Place, kind: u8) -> Result<Place, Refusal>
     requires { IsKindNumber kind × (within_limits p ≡ true) }
     ensures { PlacesLine p kind result }
 {
@@ -114,23 +106,20 @@ pub fn line_word(work: &[u8], i: usize) -> Word
 
 // THE PASS
 
-// The place after a line, and where its LF is; or why the line is refused.
+// Where a line's LF is, and the place after the line.
 #[derive(Clone, Copy)]
-enum ScannedLine {
-    Next(usize, Place),
-    Refused(Refusal),
+struct NextLine {
+    feed: usize,
+    place: Place,
 }
 
 // The answer on a line of this kind with its LF at e.
-fn placed_line(p: Place, kind: u8, e: usize) -> ScannedLine
+fn placed_line(p: Place, kind: u8, e: usize) -> Result<NextLine, Refusal>
     requires { IsKindNumber kind × (within_limits p ≡ true) }
     ensures { PlacesLineTo p kind e result }
 {
-    let a = place_line(p, kind);
-    match a {
-        Placing::Refused(why) => ScannedLine::Refused(why),
-        Placing::Next(q) => ScannedLine::Next(e, q),
-    }
+    let place = place_line(p, kind)?;
+    Ok(NextLine { feed: e, place })
 }
 
 // Why a line that has not its form is refused: the first byte that ends it is its LF, or no byte of a line.
@@ -146,33 +135,30 @@ fn refused_line(t: &[u8], at: usize) -> Refusal
 }
 
 // The line that begins at `at`, with n lines above it. A line that has its form ends with its last field.
-fn scan_line(t: &[u8], work: &mut [u8], at: usize, n: usize, p: Place) -> ScannedLine
+fn scan_line(t: &[u8], work: &mut [u8], at: usize, n: usize, p: Place) -> Result<NextLine, Refusal>
     requires { (at < length t.now) × (within_limits p ≡ true) × (length t.now ≤ most_bytes) × (length work.old ≡ work_bytes) × (least_line * n ≤ at) }
     ensures { ScansLine t.now at p result × NotesLine t.now work.old at n result work.new }
 {
     let w = first_word(t, at);
-    let f = line_fields(t, w);
-    match f {
-        Fields::Bad => ScannedLine::Refused(refused_line(t, at)),
-        Fields::Upto(e) => {
-            if read_bytes::byte_at(t, e) != Byte::LINE_FEED {
-                return ScannedLine::Refused(Refusal::BadByte);
-            }
-            put_line(work, n, w);
-            placed_line(p, w.kind, e)
-        }
+    let Some(e) = line_fields(t, w) else {
+        return Err(refused_line(t, at));
+    };
+    if read_bytes::byte_at(t, e) != Byte::LINE_FEED {
+        return Err(Refusal::BadByte);
     }
+    put_line(work, n, w);
+    placed_line(p, w.kind, e)
 }
 
-// A text that is taken, with the count of its lines; or why it is refused, and at which line.
+// Why a text is refused in pass 1, and at which line.
 #[derive(Clone, Copy)]
-pub enum Scanned {
-    Taken(usize),
-    Refused(Refusal, usize),
+pub struct RefusedLine {
+    pub why: Refusal,
+    pub line: usize,
 }
 
-// Form, place and limits of every line, and the text's end; keeps the table of lines.
-pub fn scan(text: &[u8], work: &mut [u8]) -> Scanned
+// Form, place and limits of every line, and the text's end; keeps the table of lines. The count of the lines of a text that is taken.
+pub fn scan(text: &[u8], work: &mut [u8]) -> Result<usize, RefusedLine>
     requires { (length text.now ≤ most_bytes) × (length work.old ≡ work_bytes) }
     ensures { (verdict_of result ≡ scan_text text.now) × TableOf text.now work.new result × (length work.new ≡ length work.old) }
 {
@@ -183,17 +169,20 @@ pub fn scan(text: &[u8], work: &mut [u8]) -> Scanned
         let a = scan_line(text, work, at, n, p);
         n += 1;
         match a {
-            ScannedLine::Refused(why) => {
-                return Scanned::Refused(why, n);
+            Ok(next) => {
+                p = next.place;
+                at = next.feed + 1;
             }
-            ScannedLine::Next(end, q) => {
-                p = q;
-                at = end + 1;
+            Err(why) => {
+                return Err(RefusedLine { why, line: n });
             }
         }
     }
     if p.stage == Stage::AFTER_MAIN {
-        return Scanned::Taken(n);
+        return Ok(n);
     }
-    Scanned::Refused(Refusal::TextEnds, n)
+    Err(RefusedLine {
+        why: Refusal::TextEnds,
+        line: n,
+    })
 }

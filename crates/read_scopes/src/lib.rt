@@ -63,11 +63,7 @@ pub fn add_class(text: &[u8], work: &mut [u8], c: Names, name: Span) -> Names
     );
     Names {
         classes: c.classes + 1,
-        fields: c.fields,
-        methods: c.methods,
-        method: c.method,
-        locals: c.locals,
-        result: c.result,
+        ..c
     }
 }
 
@@ -96,12 +92,8 @@ pub fn add_field(
         },
     );
     Names {
-        classes: c.classes,
         fields: c.fields + 1,
-        methods: c.methods,
-        method: c.method,
-        locals: c.locals,
-        result: c.result,
+        ..c
     }
 }
 
@@ -112,12 +104,8 @@ pub fn add_method(text: &[u8], work: &mut [u8], c: Names, m: Row) -> Names
 {
     read_names::put_row(text, work, read_names::METHODS + c.methods, m);
     Names {
-        classes: c.classes,
-        fields: c.fields,
         methods: c.methods + 1,
-        method: c.method,
-        locals: c.locals,
-        result: c.result,
+        ..c
     }
 }
 
@@ -146,12 +134,8 @@ pub fn put_local(text: &[u8], work: &mut [u8], c: Names, name: Span, gives: Span
 {
     put_variable(text, work, FIRST_LOCAL + c.locals, name, gives);
     Names {
-        classes: c.classes,
-        fields: c.fields,
-        methods: c.methods,
-        method: c.method,
         locals: c.locals + 1,
-        result: c.result,
+        ..c
     }
 }
 

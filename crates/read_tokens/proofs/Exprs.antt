@@ -17,9 +17,10 @@ use Rattle.rules.specs.Text.{letter, digit, letter_or_digit, up_to, is_name, sto
 use Rattle.rules.specs.Syntax.{num, null, var, path}
 use Rattle.read_bytes.specs.declared.Set.TheVariants.{FieldEnd}
 use Rattle.read_bytes.specs.Sets.{in_set}
-use Rattle.read_bytes.specs.Fields.{field_length, first_field, ends_field, FieldIs}
+use Rattle.std.proofs.Common.{Some}
+use Rattle.read_bytes.specs.Fields.{field_length, first_field, ends_field, field_end}
 use Rattle.read_tokens.specs.Names.{begins_name}
-use Rattle.read_bytes.proofs.Fields.{field_cut, field-first, field-long}
+use Rattle.read_bytes.proofs.Fields.{field_cut, field-first, field-long, field-passes}
 use Rattle.read_bytes.proofs.Search.{true-false, and_both, and-true, and-false, or-false, up_to-within, up_to-found, up_to-passed, up_to-take, up_to-jump, smaller-within, smaller-end, smaller-here, smaller-later, all-up_to, all_of, not-all, rest_part}
 
 -- NAMES
@@ -205,14 +206,8 @@ module _ (l : Name) (at e : ℕ) (h : at ≤ length l) (is : e ≡ at + up_to ot
       go true t = name-at t ∙ b
       go false t = no-name-at t
 
-  pub ends-name : ends_field l e ≡ true → e - at ≤ 12 → letter (get_or l at 0) ≡ true → FieldIs is_name l at e
-  ends-name t n f =
-      let i : is_name (first_field (drop at l)) ≡ true = name-at t ∙ rw (le-leb (e - at) 12 n, f) in
-      record {
-        low = omega (arith, is);
-        high = omega (arith, is, length-drop at l, up_to-within other (drop at l));
-        is = rw i (is ∙ ap (λ m. at + m) (sym (ended_at t)));
-      }
+  pub ends-name : ends_field l e ≡ true → e - at ≤ 12 → letter (get_or l at 0) ≡ true → Some e ≡ field_end is_name l at
+  ends-name t n f = field-passes is_name l at e (name-at t ∙ rw (le-leb (e - at) 12 n, f)) (is ∙ ap (λ m. at + m) (sym (ended_at t)))
 
 pub no-letter-at : (l : Name) (at : ℕ) → at ≤ length l → letter (get_or l at 0) ≡ false → is_name (first_field (drop at l)) ≡ false
 no-letter-at l at h e = let s = at + up_to other (drop at l) in not-begun l at s h refl (rw e (and-false (leb (s - at) 12)))
@@ -336,12 +331,3 @@ module _ (l : Name) (at d : ℕ) (h : at ≤ length l) (is : d ≡ at + up_to ot
         pub path-ends : e ≡ at + field_length (drop at l)
         unfolding field_length
         path-ends = omega (arith, is, ends, after-length (drop at l) n goes_on, ap field_length after-at)
-
--- NO BYTES
-pub no_name : is_name [] ≡ false
-unfolding is_name Text.opened Base.opened
-no_name = refl
-
-pub no-expr : is_expr [] ≡ false
-unfolding is_expr Text.opened Base.opened
-no-expr = refl

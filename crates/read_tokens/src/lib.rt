@@ -4,7 +4,7 @@
 ghost use Rattle.std.specs.Prelude.{◌≡◌, true, false, ◌||◌, eqb, ◌+◌, ◌-◌, ◌≤◌, length, drop};
 ghost use Rattle.rules.specs.Text.{minus, digit, is_name, numeral, is_expr};
 ghost use Rattle.read_bytes.specs.Sets.{FirstInSet};
-ghost use Rattle.read_bytes.specs.Fields.{FieldIs};
+ghost use Rattle.read_bytes.specs.Fields.{field_end};
 ghost use Rattle.read_tokens.specs.Names.{begins_name};
 ghost use Rattle.read_tokens.specs.Expressions.{Reads};
 
@@ -32,7 +32,8 @@ pub fn is_name(w: &[u8]) -> bool
     false
 }
 
-// Where the letters and digits from a place on end. A mark of `name_marks` is no letter or digit, and is not tested again.
+// Where the letters and digits from a place on end. As `read_bytes::find`, but a mark of `name_marks` is not tested again.
+// A `while`: it goes on by whole words.
 fn name_stop(l: &[u8], at: usize) -> usize
     requires { at ≤ length l.now }
     ensures { FirstInSet l.now at Set.NotLetterOrDigit result }
@@ -48,19 +49,23 @@ fn name_stop(l: &[u8], at: usize) -> usize
     read_bytes::find_from(l, stop, Set::NotLetterOrDigit)
 }
 
-// The end of the field that starts at `at`, if that field is a name; else `at`. One scan finds both.
-pub fn name_end(l: &[u8], at: usize) -> usize
+// The end of the field that starts at `at`, if that field is a name. One scan finds both.
+pub fn name_end(l: &[u8], at: usize) -> Option<usize>
     requires { at ≤ length l.now }
-    ensures { FieldIs is_name l.now at result }
+    ensures { result ≡ field_end is_name l.now at }
 {
     if !read_bytes::is_letter(read_bytes::byte_at(l, at)) {
-        return at;
+        return None;
     }
     let e = name_stop(l, at);
     if Machine::NAME_BYTES < e - at {
-        return at;
+        return None;
     }
-    if read_bytes::ends_field(l, e) { e } else { at }
+    if read_bytes::ends_field(l, e) {
+        Some(e)
+    } else {
+        None
+    }
 }
 
 // EXPRESSIONS
@@ -110,31 +115,31 @@ pub fn known_expr(w: &[u8]) -> Expr
     Expr::Var
 }
 
-// The end of the field that starts at `at`, if that field is a variable, `null` or a path; else `at`. Its first byte that is no letter or
-// digit stands at d.
-fn path_end(l: &[u8], at: usize, d: usize) -> usize
+// The end of the field that starts at `at`, if that field is a variable, `null` or a path. Its first byte that is no letter or digit stands
+// at d.
+fn path_end(l: &[u8], at: usize, d: usize) -> Option<usize>
     requires { (at ≤ length l.now) × FirstInSet l.now at Set.NotLetterOrDigit d × (numeral (drop at l.now) ≡ false) }
-    ensures { FieldIs is_expr l.now at result }
+    ensures { result ≡ field_end is_expr l.now at }
 {
     let n = d - at;
     if !begins_name(&l[at..], n) {
-        return at;
+        return None;
     }
     if read_bytes::ends_field(l, d) {
-        return d;
+        return Some(d);
     }
     if l[d] != Byte::FULL_STOP {
-        return at;
+        return None;
     }
     let f = d + 1;
     let e = read_bytes::find(l, f, Set::FieldEnd);
-    if is_name(&l[f..e]) { e } else { at }
+    if is_name(&l[f..e]) { Some(e) } else { None }
 }
 
-// The end of the field that starts at `at`, if that field is an expression; else `at`.
-pub fn expr_end(l: &[u8], at: usize) -> usize
+// The end of the field that starts at `at`, if that field is an expression.
+pub fn expr_end(l: &[u8], at: usize) -> Option<usize>
     requires { at ≤ length l.now }
-    ensures { FieldIs is_expr l.now at result }
+    ensures { result ≡ field_end is_expr l.now at }
 {
     if begins_number(read_bytes::byte_at(l, at)) {
         return read_numbers::number_end(l, at);

@@ -19,9 +19,9 @@ use Rattle.read_types.specs.declared.ExprType.{ExprType}
 use Rattle.read_types.specs.declared.Member.{Member}
 use Rattle.read_lookups.specs.LookUps.{type_of, Looked}
 use Rattle.read_types.specs.Types.{type_meant, is_int_type, expr_judged, may_name, MemberIs, of_own_class}
-use Rattle.read_types.specs.Verdicts.{test, judged}
+use Rattle.read_types.specs.Verdicts.{Verdict, test, judged}
 use Rattle.read_types.specs.declared.Fault.{Fault}
-use Rattle.read_types.specs.declared.Verdict.{Verdict}
+use Rattle.std.proofs.Common.{Ok}
 use Rattle.read_lookups.proofs.LookUps.{type-by, field-any, looked-type}
 
 -- A PATH: what its look-ups say of it
@@ -43,7 +43,7 @@ path-judged t w c vs x f v s i h p e =
   where
     go :
         (a b d r : Bool) →
-        test a Fault.Undeclared (test (not r) Fault.Undeclared (test (not d) Fault.WrongType (test b Fault.Undeclared Verdict.Good)))
+        test a Fault.Undeclared (test (not r) Fault.Undeclared (test (not d) Fault.WrongType (test b Fault.Undeclared (Ok tt))))
         ≡ judged (a && (not r && (d || b))) (not d) true
     go false b d r = refl
     go true b d true = refl

@@ -1,11 +1,11 @@
 -- Verdicts of the parts of a line, put together.
-use mathlib.Core.Path.{◌≡◌, refl, ap}
+use mathlib.Core.Path.{◌≡◌, refl, sym, ap}
 use mathlib.Core.Bool.{Bool, true, false, ◌&&◌}
 use Prim.Native.Nat.{ℕ}
 use native.Mathlib.Omega.{arith}
 use Rattle.read_types.specs.declared.Fault.{Fault}
-use Rattle.read_types.specs.declared.Verdict.{Verdict}
-use Rattle.read_types.specs.Verdicts.{test, judged, and_then, lower_fault, lower}
+use Rattle.std.proofs.Common.{Ok, Err}
+use Rattle.read_types.specs.Verdicts.{Verdict, test, judged, and_then, lower_fault, lower}
 
 -- of two parts: the tests of both
 pub lower-judged : (k t a l u b : Bool) → lower (judged k t a) (judged l u b) ≡ judged (k && l) (t && u) (a && b)
@@ -25,7 +25,7 @@ lower-judged false t a true false b = refl
 lower-judged false t a false u b = refl
 
 -- one more test of types, where nothing is assigned
-pub then_typed : (k t p : Bool) → and_then (judged k t true) (test p Fault.WrongType Verdict.Good) ≡ judged k (t && p) true
+pub then_typed : (k t p : Bool) → and_then (judged k t true) (test p Fault.WrongType (Ok tt)) ≡ judged k (t && p) true
 unfolding judged test and_then
 then_typed true true p = refl
 then_typed true false p = refl
@@ -43,40 +43,51 @@ lower-fault-assoc Fault.WrongTarget g h = refl
 
 pub lower-assoc : (u v w : Verdict) → lower u (lower v w) ≡ lower (lower u v) w
 unfolding lower
-lower-assoc Verdict.Good v w = refl
-lower-assoc (Verdict.Bad f) Verdict.Good w = refl
-lower-assoc (Verdict.Bad f) (Verdict.Bad g) Verdict.Good = refl
-lower-assoc (Verdict.Bad f) (Verdict.Bad g) (Verdict.Bad h) = ap Verdict.Bad (lower-fault-assoc f g h)
+lower-assoc (Ok u) v w = refl
+lower-assoc (Err f) (Ok u) w = refl
+lower-assoc (Err f) (Err g) (Ok u) = refl
+lower-assoc (Err f) (Err g) (Err h) = ap Err (lower-fault-assoc f g h)
 
-pub lower_last : (v : Verdict) → lower v Verdict.Good ≡ v
+pub lower_last : (v : Verdict) → lower v (Ok tt) ≡ v
 unfolding lower
-lower_last Verdict.Good = refl
-lower_last (Verdict.Bad f) = refl
+lower_last (Ok u) = refl
+lower_last (Err f) = refl
 
-pub not-bad : {A : Type 0} (f : Fault) → Verdict.Bad f ≡ Verdict.Good → A
+pub not-bad : {A : Type 0} (f : Fault) → ◌≡◌ {A = Verdict} (Err f) (Ok tt) → A
 not-bad f e = absurd (let z : ◌≡◌ {A = ℕ} 0 1 = cc in omega arith)
 
 -- what is good of two parts
-pub lower-good : (u v : Verdict) → lower u v ≡ Verdict.Good → (u ≡ Verdict.Good) × (v ≡ Verdict.Good)
+pub lower-good : (u v : Verdict) → lower u v ≡ Ok tt → (u ≡ Ok tt) × (v ≡ Ok tt)
 unfolding lower
-lower-good Verdict.Good v e = (refl, e)
-lower-good (Verdict.Bad f) Verdict.Good e = not-bad f e
-lower-good (Verdict.Bad f) (Verdict.Bad g) e = not-bad (lower_fault f g) e
+lower-good (Ok u) v e = (refl, e)
+lower-good (Err f) (Ok u) e = not-bad f e
+lower-good (Err f) (Err g) e = not-bad (lower_fault f g) e
 
-pub then-good : (u v : Verdict) → and_then u v ≡ Verdict.Good → (u ≡ Verdict.Good) × (v ≡ Verdict.Good)
+pub then-good : (u v : Verdict) → and_then u v ≡ Ok tt → (u ≡ Ok tt) × (v ≡ Ok tt)
 unfolding and_then
-then-good Verdict.Good v e = (refl, e)
-then-good (Verdict.Bad f) v e = not-bad f e
+then-good (Ok u) v e = (refl, e)
+then-good (Err f) v e = not-bad f e
 
 -- a test that a good part passes
-pub test_good : (b : Bool) (f : Fault) (v : Verdict) → test b f v ≡ Verdict.Good → (b ≡ true) × (v ≡ Verdict.Good)
+pub test_good : (b : Bool) (f : Fault) (v : Verdict) → test b f v ≡ Ok tt → (b ≡ true) × (v ≡ Ok tt)
 unfolding test
 test_good true f v e = (refl, e)
 test_good false f v e = not-bad f e
 
-pub judged-good : (k t a : Bool) → judged k t a ≡ Verdict.Good → (k ≡ true) × ((t ≡ true) × (a ≡ true))
+pub judged-good : (k t a : Bool) → judged k t a ≡ Ok tt → (k ≡ true) × ((t ≡ true) × (a ≡ true))
 unfolding judged
 judged-good k t a e =
     let x = test_good k Fault.Undeclared _ e in
     let y = test_good t Fault.WrongType _ x.1 in
-    (x.0, (y.0, (test_good a Fault.WrongTarget Verdict.Good y.1).0))
+    (x.0, (y.0, (test_good a Fault.WrongTarget (Ok tt) y.1).0))
+
+-- what `?` makes of one test
+pub test_stops : (b : Bool) (f e : Fault) (v : Verdict) → test b f (Ok tt) ≡ Err e → test b f v ≡ Err e
+unfolding test
+test_stops true f e v z = not-bad e (sym z)
+test_stops false f e v z = z
+
+pub test_goes : (b : Bool) (f : Fault) (u : Unit {0}) (v : Verdict) → test b f (Ok tt) ≡ Ok u → test b f v ≡ v
+unfolding test
+test_goes true f u v z = refl
+test_goes false f u v z = not-bad f z

@@ -1,10 +1,9 @@
 -- Types of expressions, and what looking up a path or an expression answers.
-use Rattle.std.specs.Prelude.{◌≡◌, Bool, true, false, not, List, ℕ, ltb}
+use Rattle.std.specs.Prelude.{◌≡◌, Ok, Bool, true, false, not, List, ℕ, ltb}
 use Rattle.std.proofs.Math.Option.{none, some}
 use Rattle.rules.specs.Base.{Name, bytes, is, eq_name}
 use Rattle.rules.specs.Syntax.{Expr, path}
 use Rattle.rules.specs.Text.{reserved}
-use Rattle.rules.specs.Grammar.{variable, fields}
 use Rattle.rules.specs.Scope.{Declarations, Variable}
 use Rattle.rules.specs.Names as Rules
 use Rattle.rules.specs.Names.{variable_type, field_type, field_number, known_expr, of_class_in, expr_type, chains}
@@ -16,8 +15,7 @@ use Rattle.read_scopes.specs.declared.Names.{Names}
 use Rattle.read_types.specs.declared.Member.{Member}
 use Rattle.read_types.specs.declared.Lookup.{Lookup}
 use Rattle.read_types.specs.declared.Fault.{Fault}
-use Rattle.read_types.specs.declared.Verdict.{Verdict}
-use Rattle.read_types.specs.Verdicts.{test, judged, and_then}
+use Rattle.read_types.specs.Verdicts.{Verdict, test, judged, and_then}
 use Rattle.read_names.specs.Rows.{name_in}
 use Rattle.read_scopes.specs.Meanings.{declarations_in, variables_in}
 use Rattle.read_lookups.specs.LookUps.{no_variable, type_of, Looked}
@@ -42,7 +40,7 @@ expr_judged Γ vs e = judged (known_expr Γ vs e) (of_class_in Γ vs e) true
 
 -- of a path whose field has its variable's class as its type
 unfoldable pub chain_judged : Declarations → List Variable → Name → Name → Verdict
-chain_judged Γ vs x f = and_then (expr_judged Γ vs (path x f)) (test (chains Γ vs x f) Fault.WrongType Verdict.Good)
+chain_judged Γ vs x f = and_then (expr_judged Γ vs (path x f)) (test (chains Γ vs x f) Fault.WrongType (Ok tt))
 
 -- may a line name f of the variable v, of the class named at s, if i is where the class's field f stands?
 unfoldable pub may_name : List ℕ → Names → ℕ → Span → ℕ → Name → Verdict
@@ -50,7 +48,7 @@ may_name t c v s i f =
     test (ltb v no_variable) Fault.Undeclared
     (test (not (reserved f)) Fault.Undeclared
     (test (not (is "int" (name_in t s))) Fault.WrongType
-    (test (ltb i c.fields) Fault.Undeclared Verdict.Good)))
+    (test (ltb i c.fields) Fault.Undeclared (Ok tt))))
 
 -- what looking up x.f gives, with this verdict
 pub record MemberIs (t w : List ℕ) (Γ : Declarations) (vs : List Variable) (x f : Name) (u : Verdict) (r : Member) : Type 0 where

@@ -1,7 +1,7 @@
 // Expressions looked up, with their numbers, type and verdict; types that agree.
 #![tactic(auto)]
 
-ghost use Rattle.std.specs.Prelude.{◌≡◌, true, false, ◌+◌, ◌≤◌, ◌<◌, length};
+ghost use Rattle.std.specs.Prelude.{◌≡◌, Ok, Err, true, false, ◌+◌, ◌≤◌, ◌<◌, length};
 ghost use Rattle.std.proofs.Math.Option.{some};
 ghost use Rattle.rules.specs.Base.{is};
 ghost use Rattle.rules.specs.Syntax.{var, path};
@@ -13,7 +13,6 @@ ghost use Rattle.read_scopes.specs.Meanings.{NamesFit};
 ghost use Rattle.read_lookups.specs.LookUps.{no_variable};
 ghost use Rattle.read_types.specs.Types.{is_int_type, type_meant, may_name, of_own_class, MemberIn, ChainIn, LookIn};
 ghost use Rattle.read_types.specs.Verdicts.{test, and_then, lower_fault, lower};
-ghost use Rattle.read_types.specs.declared.Verdict.{Verdict};
 ghost use Rattle.read_types.specs.declared.Fault.{Fault};
 
 use read_names::Span;
@@ -28,19 +27,12 @@ pub enum ExprType {
     Named(Span),
 }
 
-// Why names and types refuse a line: numbers 6, 7 and 9.
-#[derive(Clone, Copy)]
+// Why names and types refuse a line or a part of it: numbers 6, 7 and 9; of two faults the lower.
+#[derive(Clone, Copy, PartialEq, Eq, PartialOrd, Ord)]
 pub enum Fault {
     Undeclared,
     WrongType,
     WrongTarget,
-}
-
-// What the tests of these numbers say of a line or of a part of it: of two faults the lower.
-#[derive(Clone, Copy)]
-pub enum Verdict {
-    Good,
-    Bad(Fault),
 }
 
 // What looking up x.f gives: the numbers of x and of the name f, the type of the field, and whether a line may name it.
@@ -49,7 +41,7 @@ pub struct Member {
     pub variable: usize,
     pub number: usize,
     pub is: Span,
-    pub verdict: Verdict,
+    pub verdict: Result<(), Fault>,
 }
 
 // What looking up an expression gives: the expression by its numbers, its type, and whether a line may name it.
@@ -57,51 +49,36 @@ pub struct Member {
 pub struct Lookup {
     pub expr: Expr,
     pub is: ExprType,
-    pub verdict: Verdict,
+    pub verdict: Result<(), Fault>,
 }
 
 // VERDICTS
 
 // One test.
-pub fn test(passed: bool, f: Fault) -> Verdict
-    ensures { result ≡ test passed f Verdict.Good }
+pub fn test(passed: bool, f: Fault) -> Result<(), Fault>
+    ensures { result ≡ test passed f (Ok tt) }
 {
     if passed {
-        return Verdict::Good;
+        return Ok(());
     }
-    Verdict::Bad(f)
+    Err(f)
 }
 
 fn lower_fault(f: Fault, g: Fault) -> Fault
     ensures { result ≡ lower_fault f g }
 {
-    match f {
-        Fault::Undeclared => Fault::Undeclared,
-        Fault::WrongTarget => g,
-        Fault::WrongType => match g {
-            Fault::Undeclared => Fault::Undeclared,
-            Fault::WrongType => Fault::WrongType,
-            Fault::WrongTarget => Fault::WrongType,
-        },
-    }
-}
-
-fn with_fault(f: Fault, v: Verdict) -> Verdict
-    ensures { result ≡ lower (Verdict.Bad f) v }
-{
-    match v {
-        Verdict::Good => Verdict::Bad(f),
-        Verdict::Bad(g) => Verdict::Bad(lower_fault(f, g)),
-    }
+    f.min(g)
 }
 
 // Of two parts of a line.
-pub fn lower(u: Verdict, v: Verdict) -> Verdict
+#[tactic(auto, unfolding(crate::specs::Verdicts::lower))]
+pub fn lower(u: Result<(), Fault>, v: Result<(), Fault>) -> Result<(), Fault>
     ensures { result ≡ lower u v }
 {
-    match u {
-        Verdict::Good => v,
-        Verdict::Bad(f) => with_fault(f, v),
+    match (u, v) {
+        (Ok(()), _) => v,
+        (Err(_), Ok(())) => u,
+        (Err(f), Err(g)) => Err(lower_fault(f, g)),
     }
 }
 
@@ -140,18 +117,19 @@ pub fn agree(text: &[u8], a: ExprType, b: ExprType) -> bool
 // LOOKING UP: all that a line needs to know of an expression, its names looked up once
 
 // May a line name f of the variable v, of this class, if i is where the class's field f stands?
-fn judge_member(text: &[u8], c: Names, v: usize, class: Span, i: usize, f: &[u8]) -> Verdict
+fn judge_member(
+    text: &[u8],
+    c: Names,
+    v: usize,
+    class: Span,
+    i: usize,
+    f: &[u8],
+) -> Result<(), Fault>
     ensures { result ≡ may_name text.now c v class i f.now }
 {
-    if read_names::NO_VARIABLE <= v {
-        return Verdict::Bad(Fault::Undeclared);
-    }
-    if read_words::is_reserved(f) {
-        return Verdict::Bad(Fault::Undeclared);
-    }
-    if read_lookups::is_int(text, class) {
-        return Verdict::Bad(Fault::WrongType);
-    }
+    test(v < read_names::NO_VARIABLE, Fault::Undeclared)?;
+    test(!read_words::is_reserved(f), Fault::Undeclared)?;
+    test(!read_lookups::is_int(text, class), Fault::WrongType)?;
     test(i < c.fields, Fault::Undeclared)
 }
 
@@ -178,20 +156,17 @@ fn is_chain(text: &[u8], work: &[u8], m: Member) -> bool
     requires { (length work.now ≡ work_bytes) × (m.variable ≤ no_variable) }
     ensures { result ≡ of_own_class text.now work.now m }
 {
-    let is = m.is;
-    read_lookups::same_name(text, is, read_lookups::type_of(work, m.variable))
+    read_lookups::same_name(text, m.is, read_lookups::type_of(work, m.variable))
 }
 
 // What a line may say of it as a chain.
-fn judge_chain(text: &[u8], work: &[u8], m: Member) -> Verdict
+#[tactic(auto, unfolding(crate::specs::Verdicts::and_then))]
+fn judge_chain(text: &[u8], work: &[u8], m: Member) -> Result<(), Fault>
     requires { (length work.now ≡ work_bytes) × (m.variable ≤ no_variable) }
-    ensures { result ≡ and_then m.verdict (test (of_own_class text.now work.now m) Fault.WrongType Verdict.Good) }
+    ensures { result ≡ and_then m.verdict (test (of_own_class text.now work.now m) Fault.WrongType (Ok tt)) }
 {
-    let v = m.verdict;
-    match v {
-        Verdict::Good => test(is_chain(text, work, m), Fault::WrongType),
-        Verdict::Bad(f) => Verdict::Bad(f),
-    }
+    m.verdict?;
+    test(is_chain(text, work, m), Fault::WrongType)
 }
 
 // As look_path, for `chain x f`: good only if x's field f is of x's class.
@@ -200,13 +175,9 @@ pub fn look_chain(text: &[u8], work: &[u8], c: Names, x: &[u8], f: &[u8]) -> Mem
     ensures { ChainIn text.now work.now c x.now f.now result }
 {
     let m = look_path(text, work, c, x, f);
-    let is = m.is;
-    let verdict = judge_chain(text, work, m);
     Member {
-        variable: m.variable,
-        number: m.number,
-        is,
-        verdict,
+        verdict: judge_chain(text, work, m),
+        ..m
     }
 }
 
@@ -215,12 +186,10 @@ fn path_look(text: &[u8], work: &[u8], c: Names, x: &[u8], f: &[u8]) -> Lookup
     ensures { LookIn text.now work.now c (path x.now f.now) result }
 {
     let m = look_path(text, work, c, x, f);
-    let is = m.is;
-    let verdict = m.verdict;
     Lookup {
         expr: Expr::Path(m.variable, m.number),
-        is: ExprType::Named(is),
-        verdict,
+        is: ExprType::Named(m.is),
+        verdict: m.verdict,
     }
 }
 
@@ -247,7 +216,7 @@ pub fn look(text: &[u8], work: &[u8], c: Names, w: &[u8]) -> Lookup
         read_tokens::Expr::Num(n) => Lookup {
             expr: Expr::Num(n),
             is: ExprType::Int,
-            verdict: Verdict::Good,
+            verdict: Ok(()),
         },
         read_tokens::Expr::Var => var_look(text, work, c, w),
         read_tokens::Expr::Path(d) => {
@@ -257,7 +226,7 @@ pub fn look(text: &[u8], work: &[u8], c: Names, w: &[u8]) -> Lookup
         read_tokens::Expr::Null => Lookup {
             expr: Expr::Null,
             is: ExprType::Null,
-            verdict: Verdict::Good,
+            verdict: Ok(()),
         },
     }
 }

@@ -90,10 +90,8 @@ pub fn pack(w: &[u8]) -> u64
     ensures { result ≡ packed 0 w.now }
 {
     let mut n: u64 = 0;
-    let mut i = 0;
-    while i < w.len() {
-        n = n * Byte::VALUES + w[i] as u64;
-        i += 1;
+    for b in w {
+        n = n * Byte::VALUES + *b as u64;
     }
     n
 }
@@ -148,7 +146,7 @@ fn word(w: &[u8]) -> u8
     numbered(pack(w))
 }
 
-// The number of the kind of line that a word begins, or 0.
+// The number of the kind of line that a word begins, or 0 and no Option: the number is a byte of the table of lines (`read_scan::Word`).
 pub fn kind_of(w: &[u8]) -> u8
     ensures { result ≡ kind_or0 (kind_of w.now) }
 {

@@ -1,4 +1,5 @@
 -- A line that is judged: its kind, its tests, and what resolving it gives.
+use Rattle.std.proofs.Common.{Ok, Err}
 use mathlib.Core.Path.{◌≡◌, refl, sym, ap, ap₂, subst, ◌∙◌}
 use mathlib.Core.Bool.{Bool, true, false, not, cond, ◌&&◌}
 use mathlib.Core.List.{List, [], ◌∷◌, ◌++◌, append-nil}
@@ -18,8 +19,7 @@ use Rattle.read_grammar.proofs.Rows.{kind-of-number}
 use Rattle.read_scopes.specs.declared.Names.{Names}
 use Rattle.read_scopes.specs.Meanings.{declarations_in, variables_in, scope_in, block_in, result_in, own_variables}
 use Rattle.read_types.specs.declared.Fault.{Fault}
-use Rattle.read_types.specs.declared.Verdict.{Verdict}
-use Rattle.read_types.specs.Verdicts.{test, judged}
+use Rattle.read_types.specs.Verdicts.{Verdict, test, judged}
 use Rattle.read_declarations.specs.Texts.{line_at, FormedAt}
 use Rattle.read_declarations.specs.Declares.{line_with}
 use Rattle.read_declarations.proofs.Adds.{word-kind}
@@ -66,8 +66,8 @@ visible-is t w c k e =
 
 -- THE TESTS
 unless_bad : Verdict → Item → Try Answers.Refusal Item
-unless_bad Verdict.Good i = ok i
-unless_bad (Verdict.Bad f) i = no (number_of f)
+unless_bad (Ok u) i = ok i
+unless_bad (Err f) i = no (number_of f)
 
 three-checks :
     (a b d : Bool) (i : Item) →
@@ -107,12 +107,12 @@ module _ (t w : List ℕ) (p : Pass) (l : Line) where
       (line-resolved Γ s l)
 
   pub good-resolved :
-      judged_here t w p l ≡ Verdict.Good → resolve_line (declarations_in t w p.names) (scope_in t w p.names p.above) l ≡ ok (item t w p l)
+      judged_here t w p l ≡ Ok tt → resolve_line (declarations_in t w p.names) (scope_in t w p.names p.above) l ≡ ok (item t w p l)
   unfolding unless_bad
   good-resolved e = resolved ∙ rw e
 
   pub bad-resolved :
-      (f : Fault) (q : Refusal) → judged_here t w p l ≡ Verdict.Bad f → refusal_of q ≡ number_of f →
+      (f : Fault) (q : Refusal) → judged_here t w p l ≡ Err f → refusal_of q ≡ number_of f →
       resolve_line (declarations_in t w p.names) (scope_in t w p.names p.above) l ≡ no (refusal_of q)
   unfolding unless_bad
   bad-resolved f q e i = resolved ∙ rw (e, i)

@@ -1,4 +1,5 @@
 -- One line of pass 2: what number 10 finds in it.
+use Rattle.std.proofs.Common.{Option, Some, None, Result, Ok, Err}
 use mathlib.Core.Path.{◌≡◌, refl, sym, ap, subst, ◌∙◌}
 use mathlib.Core.Bool.{Bool, true, false, cond, ◌||◌}
 use mathlib.Core.List.{List, []}
@@ -19,10 +20,8 @@ use Rattle.tables.specs.Decode.{framed_from}
 use Rattle.rules.specs.Syntax.{Program}
 use Rattle.read_scan.specs.declared.Word.{Word}
 use Rattle.read_types.specs.declared.Fault.{Fault}
-use Rattle.read_types.specs.declared.Verdict.{Verdict}
 use Rattle.resolve_pass.specs.declared.Pass.{Pass}
-use Rattle.resolve_pass.specs.declared.TriedLine.{TriedLine}
-use Rattle.resolve_pass.specs.Passes.{is_framed, PassFits, Stands, LineRoom, LinePut, item, unframed_after, line_after, judged_here, BadLine, LineTried}
+use Rattle.resolve_pass.specs.Passes.{is_framed, PassFits, Stands, LineRoom, LinePut, item, first_of, unframed_after, line_after, judged_here, BadLine, LineTried}
 use Rattle.resolve_headers.specs.Headers.{is_declaration}
 use Rattle.resolve_pass.proofs.Unframed.{framed-formula, framed-other}
 use Rattle.reader.specs.Readings.{Between, Written, Begins, LineTaken, unframed_by, with_unframed}
@@ -53,17 +52,17 @@ module _ {t w : List ℕ} {p : Pass} {l : Line} {w' : List ℕ} {q : Pass} (x : 
       unframed_by (is_framed l.kind) (framed_from w' (kind_number l.kind) p.atoms (q.atoms - p.atoms)) p
       ≡ unframed_after p.unframed p.line (item t w p l)
   unfolding unframed_by unframed_after framed
-  unframed-is F s = ap (λ (n : ℕ). cond (eqb p.unframed 0) n p.unframed) (go (is_framed l.kind) refl)
+  unframed-is F s = ap (first_of p.unframed) (go (is_framed l.kind) refl)
     where
       go :
           (b : Bool) → is_framed l.kind ≡ b →
-          cond b (cond (framed [] (framed_from w' (kind_number l.kind) p.atoms (q.atoms - p.atoms))) 0 (suc p.line)) 0
-          ≡ cond (framed_item (item t w p l)) 0 (suc p.line)
+          cond b (cond (framed [] (framed_from w' (kind_number l.kind) p.atoms (q.atoms - p.atoms))) None (Some (suc p.line))) None
+          ≡ cond (framed_item (item t w p l)) None (Some (suc p.line))
       go true e = rw (x.formula e F s, framed-formula (item t w p l))
       go false e = sym (rw (framed-other _ _ l.kind l e))
 
   -- and is all that changes then
-  pub put-unframed : (u : ℕ) → LinePut t w p l w' (with_unframed q u)
+  pub put-unframed : (u : Option ℕ) → LinePut t w p l w' (with_unframed q u)
   unfolding with_unframed
   put-unframed u =
       record {
@@ -116,13 +115,13 @@ module _ {t w : List ℕ} {p : Pass} {r : Word} (x : Begins t w p r) where
   pub follows : LineRoom t w p (line_after t r.end r.kind) → Follows t w p r.kind r.end
   follows m = record { ready = x.ready; high = x.high; formed = x.formed; room = m }
 
-module _ {t w : List ℕ} {p : Pass} {l : Line} {w' : List ℕ} {y : TriedLine} (x : LineTried t w p l w' y) where
-  pub tried-on : (q : Pass) → y ≡ TriedLine.On q → (judged_here t w p l ≡ Verdict.Good) × (LinePut t w p l w' q × (q.unframed ≡ p.unframed))
+module _ {t w : List ℕ} {p : Pass} {l : Line} {w' : List ℕ} {y : Result Pass Fault} (x : LineTried t w p l w' y) where
+  pub tried-on : (q : Pass) → y ≡ Ok q → (judged_here t w p l ≡ Ok tt) × (LinePut t w p l w' q × (q.unframed ≡ p.unframed))
   unfolding LineTried
   tried-on q i = subst (LineTried t w p l w') i x
 
 pub tried-bad :
-    (t w : List ℕ) (p : Pass) (l : Line) (w' : List ℕ) (y : TriedLine) (f : Fault) → LineTried t w p l w' y → y ≡ TriedLine.Bad f → BadLine t w p l w' f
+    (t w : List ℕ) (p : Pass) (l : Line) (w' : List ℕ) (y : Result Pass Fault) (f : Fault) → LineTried t w p l w' y → y ≡ Err f → BadLine t w p l w' f
 unfolding LineTried
 tried-bad t w p l w' y f x i = subst (LineTried t w p l w') i x
 
@@ -138,16 +137,16 @@ module _ (t w : List ℕ) (p : Pass) {k : ℕ} (r : ℕ) (K : Kind) (e : k ≡ k
   kind-room m = subst (λ (k : ℕ). LineRoom t w p (line_after t r k)) e m
 
 -- THE TEST, STEP BY STEP
-module _ (p : Pass) (φ : Formula ℕ) (none : p.unframed ≡ 0) (b r : Bool) (is : r ≡ b) where
-  pub not-asked : r ≡ false → unframed_by b φ p ≡ 0
+module _ (p : Pass) (φ : Formula ℕ) (none : p.unframed ≡ None) (b r : Bool) (is : r ≡ b) where
+  pub not-asked : r ≡ false → unframed_by b φ p ≡ None
   unfolding unframed_by
   not-asked e = rw (none, ← is, e)
 
   module _ (asked : r ≡ true) (f : Bool) (found : f ≡ framed [] φ) where
-    pub all-framed : f ≡ true → unframed_by b φ p ≡ 0
+    pub all-framed : f ≡ true → unframed_by b φ p ≡ None
     unfolding unframed_by
     all-framed e = rw (none, ← is, asked, ← found, e)
 
-    pub one-unframed : f ≡ false → unframed_by b φ p ≡ suc p.line
+    pub one-unframed : f ≡ false → unframed_by b φ p ≡ Some (suc p.line)
     unfolding unframed_by
     one-unframed e = rw (none, ← is, asked, ← found, e)

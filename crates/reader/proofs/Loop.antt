@@ -35,10 +35,10 @@ use Rattle.write_rows.proofs.Kept.{none_written}
 use Rattle.resolve_pass.specs.declared.Pass.{Pass}
 use Rattle.resolve_pass.specs.Passes.{counts, first_pass, last_class, PassFits, Stands, LineRoom, item, line_after}
 use Rattle.resolve_pass.proofs.Places.{At, at_first, at-fits, at_ready, at_last, at_room, at_on}
-use Rattle.resolve_pass.proofs.Unframed.{framed_after, framed-first, framed-on, framed-last}
+use Rattle.resolve_pass.proofs.Unframed.{framed_after, framed-first, framed-on, framed-last, unframed-last}
 use Rattle.reader.specs.Readings.{refusal_of, framed_verdict, Written, Begins, LineRead, StepIs, resolved_text, AllRead}
 use Rattle.reader.specs.declared.Refusal as Reasons
-use Rattle.reader.specs.declared.Step.{Step}
+use Rattle.std.proofs.Common.{Option, Some, None, Result, Ok, Err}
 use Rattle.reader.proofs.Judged.{word_line, word-begins}
 
 -- LISTS AND VERDICTS
@@ -75,14 +75,14 @@ unfolding scope_in names_from run class_above block_in own_variables
 first-scope t w c m l = rw (m, l)
 
 -- A STEP BY ITS CASES
-module _ (t w : List ℕ) (p : Pass) (l : Line) (w' : List ℕ) (s : Step) (x : StepIs t w p l w' s) where
+module _ (t w : List ℕ) (p : Pass) (l : Line) (w' : List ℕ) (s : Result Pass Reasons.Refusal) (x : StepIs t w p l w' s) where
   pub step-refused :
-      (r : Reasons.Refusal) → s ≡ Step.Refused r →
+      (r : Reasons.Refusal) → s ≡ Err r →
       (resolve_line (declarations_in t w p.names) (scope_in t w p.names p.above) l ≡ no (refusal_of r)) × (length w' ≡ length w)
   unfolding StepIs
   step-refused r e = subst (StepIs t w p l w') e x
 
-  pub step-on : (q : Pass) → s ≡ Step.On q → LineRead t w p l w' q
+  pub step-on : (q : Pass) → s ≡ Ok q → LineRead t w p l w' q
   unfolding StepIs
   step-on q e = subst (StepIs t w p l w') e x
 
@@ -106,6 +106,12 @@ pub record Resolving (t : List ℕ) (a : ℕ) (p : Pass) (w : List ℕ) : Type 0
       resolved_text t
       ≡ then (resolve_lines (declarations (lines_of t)) (lines_of (drop a t)) p.line (scope_in t w p.names p.above))
       (λ rest. accepted (items ++ rest))
+
+-- number 10 after the last line
+framed-end : (u : Option ℕ) (n : ℕ) → framed_after u n [] ≡ framed_verdict u
+unfolding framed_verdict
+framed-end None n = framed-last n
+framed-end (Some u) n = unframed-last u n
 
 first-stands : (t w : List ℕ) (c : Names) → length w ≡ work_bytes → Stands t w (first_pass c) (with_items no_program 0 [])
 unfolding with_items last_class scope_in names_from run
@@ -163,7 +169,7 @@ module _ {t : List ℕ} {a : ℕ} {p : Pass} {w : List ℕ} (x : Resolving t a p
         stands = x.stands;
         classes = all_above _ _ f.classes.low f.classes.are ∙ class-count;
         methods = all_above _ _ f.methods.low f.methods.are ∙ method-count;
-        unframed = ap (λ (xs : List Item). check_framed xs 0) (sym (append-nil x.items)) ∙ (x.framed [] ∙ framed-last p.unframed p.line);
+        unframed = ap (λ (xs : List Item). check_framed xs 0) (sym (append-nil x.items)) ∙ (x.framed [] ∙ framed-end p.unframed p.line);
         declared = x.declared;
         fits = at-fits x.stand;
         lines = n;
@@ -226,7 +232,7 @@ module _ {t : List ℕ} {a : ℕ} {p : Pass} {w : List ℕ} (x : Resolving t a p
               ap (λ (xs : List Item). check_framed xs 0) (append_assoc x.items (item t w p (line_at t a) ∷ []) rest)
               ∙ (x.framed (item t w p (line_at t a) ∷ rest)
               ∙ (sym (framed-on p.unframed p.line (item t w p (line_at t a)) rest)
-              ∙ ap₂ (λ (u k : ℕ). framed_after u k rest) (sym y.taken.unframed) (sym n)));
+              ∙ ap₂ (λ (u : Option ℕ) (k : ℕ). framed_after u k rest) (sym y.taken.unframed) (sym n)));
           resolved = resolved-line y.resolved
               ∙ ap₂ (λ (k : ℕ) (s : Scope). then (left (lines_of (drop (e + 1) t)) k s) (λ rest. accepted ((x.items ++ (item t w p (line_at t a) ∷ [])) ++ rest))) (sym n) (sym z.scope);
         }

@@ -1,5 +1,5 @@
 -- The whole text: what the passes give is what `read_text` says.
-use mathlib.Core.Path.{◌≡◌, refl, sym, ap, subst, ◌∙◌}
+use mathlib.Core.Path.{◌≡◌, sym, ap, subst, ◌∙◌}
 use mathlib.Core.List.{List, []}
 use Prim.Native.Nat.{ℕ, ◌≤◌, ◌<◌}
 use native.Mathlib.Omega.{arith}
@@ -18,11 +18,9 @@ use Rattle.read_scan.proofs.Scans.{text-taken}
 use Rattle.read_scan.proofs.Table.{table_kept}
 use Rattle.tables.specs.Decode.{run}
 use Rattle.read_names.specs.Rows.{entry_at, classes_first, methods_first}
-use Rattle.read_scopes.specs.declared.Names.{Names}
 use Rattle.read_scopes.specs.Meanings.{as_method, names_from, declarations_in}
 use Rattle.read_scopes.proofs.Scopes.{names-kept}
 use Rattle.read_declarations.specs.Texts.{lines_of, TextTaken}
-use Rattle.read_declarations.specs.Declares.{Declares}
 use Rattle.rules.specs.Syntax.{Program}
 use Rattle.rules.specs.Reading.{no_program, with_items}
 use Rattle.write_rows.specs.Puts.{put_header}
@@ -31,7 +29,8 @@ use Rattle.targets.proofs.Finished.{ended_tables, Ended, read-tables}
 use Rattle.resolve_pass.specs.declared.Pass.{Pass}
 use Rattle.resolve_pass.specs.Passes.{counts}
 use Rattle.reader.specs.declared.Refusal.{Refusal}
-use Rattle.reader.specs.declared.Resolved.{Resolved}
+use Rattle.reader.specs.declared.RefusedLine.{RefusedLine}
+use Rattle.std.proofs.Common.{Result, Ok, Err}
 use Rattle.reader.specs.Readings.{refusal_of, resolved_text, AllRead, ResolvedIs, Noted, Tabled}
 
 -- THE PASSES IN THEIR ORDER
@@ -64,26 +63,14 @@ module _ (t : List ℕ) (short : length t ≤ most_bytes) where
   read-resolved k = by-passes ∙ rw k
 
 -- PASS 2 BY ITS CASES
-module _ (t w : List ℕ) (r : Resolved) (x : ResolvedIs t w r) where
-  pub lines-refused : (why : Refusal) (l : ℕ) → r ≡ Resolved.Refused why l → resolved_text t ≡ refused (refusal_of why) l
+module _ (t w : List ℕ) (r : Result Pass RefusedLine) (x : ResolvedIs t w r) where
+  pub lines-refused : (q : RefusedLine) → r ≡ Err q → resolved_text t ≡ refused (refusal_of q.why) q.line
   unfolding ResolvedIs
-  lines-refused why l e = subst (ResolvedIs t w) e x
+  lines-refused q e = subst (ResolvedIs t w) e x
 
-  pub all_read : (p : Pass) → r ≡ Resolved.Done p → AllRead t w p
+  pub all_read : (p : Pass) → r ≡ Ok p → AllRead t w p
   unfolding ResolvedIs
   all_read p e = subst (ResolvedIs t w) e x
-
--- the declarations stand in the area as it is
-pub declared-here : {t v w : List ℕ} {c : Names} → Declares t v w c → Declares t w w c
-declared-here x =
-    record {
-      are = x.are;
-      fits = x.fits;
-      tables = record { size = refl; bytes = λ i a b. refl };
-      method = x.method;
-      locals = x.locals;
-      result = x.result;
-    }
 
 -- THE END
 module _ {t w : List ℕ} {p : Pass} (x : AllRead t w p) where

@@ -1,5 +1,5 @@
 -- What the reader's answers mean: the refusal of each case, and the tables of a text that is read.
-use Rattle.std.specs.Prelude.{◌≡◌, Bool, cond, List, [], ℕ, suc, ◌+◌, ◌≤◌, ◌<◌, eqb, length}
+use Rattle.std.specs.Prelude.{Option, Some, None, Result, Ok, Err, ◌≡◌, Bool, cond, List, [], ℕ, suc, ◌+◌, ◌≤◌, ◌<◌, length}
 use Rattle.rules.specs.Limits.{work_bytes, most_bytes, most_filled}
 use Rattle.rules.specs.Syntax.{Formula}
 use Rattle.rules.specs.Base.{ok, no}
@@ -23,11 +23,9 @@ use Rattle.read_types.specs.declared.Fault.{Fault}
 use Rattle.read_declarations.specs.Texts.{lines_of, TextTaken}
 use Rattle.read_declarations.specs.Declares.{FormedAfter}
 use Rattle.resolve_pass.specs.declared.Pass.{Pass}
-use Rattle.resolve_pass.specs.Passes.{PassFits, Stands, LinePut, after, item, unframed_after}
+use Rattle.resolve_pass.specs.Passes.{PassFits, Stands, LinePut, after, item, first_of, unframed_after}
 use Rattle.reader.specs.declared.Refusal.{Refusal}
-use Rattle.reader.specs.declared.Step.{Step}
-use Rattle.reader.specs.declared.Resolved.{Resolved}
-use Rattle.reader.specs.declared.Reading.{Reading}
+use Rattle.reader.specs.declared.RefusedLine.{RefusedLine}
 
 -- the row of the table that a refusal is
 unfoldable pub refusal_of : Refusal → Answers.Refusal
@@ -46,9 +44,10 @@ number_of Fault.Undeclared = Answers.undeclared
 number_of Fault.WrongType = Answers.wrong_type
 number_of Fault.WrongTarget = Answers.wrong_target
 
--- the verdict of number 10, by the first line that it refuses, or 0
-unfoldable pub framed_verdict : ℕ → Verdict (Unit {0})
-framed_verdict u = cond (eqb u 0) (accepted tt) (refused Answers.unframed u)
+-- the verdict of number 10, by the first line that it refuses, if any
+unfoldable pub framed_verdict : Option ℕ → Verdict (Unit {0})
+framed_verdict None = accepted tt
+framed_verdict (Some u) = refused Answers.unframed u
 
 -- ONE LINE: t is the text, w the work area before it, w' after it
 
@@ -74,10 +73,10 @@ pub record Between (w : List ℕ) (k : ℕ) (p q : Pass) : Type 0 where
   pub condition : k ≡ loop_kind → p.atoms < q.atoms
 
 -- with a formula that number 10 is about, or not
-unfoldable pub unframed_by : Bool → Formula ℕ → Pass → ℕ
-unframed_by b φ p = cond (eqb p.unframed 0) (cond b (cond (framed [] φ) 0 (suc p.line)) 0) p.unframed
+unfoldable pub unframed_by : Bool → Formula ℕ → Pass → Option ℕ
+unframed_by b φ p = first_of p.unframed (cond b (cond (framed [] φ) None (Some (suc p.line))) None)
 
-unfoldable pub with_unframed : Pass → ℕ → Pass
+unfoldable pub with_unframed : Pass → Option ℕ → Pass
 with_unframed p u =
     record { names = p.names; above = p.above; rows = p.rows; atoms = p.atoms; main = p.main; line = p.line; unframed = u }
 
@@ -90,9 +89,9 @@ pub record LineRead (t w : List ℕ) (p : Pass) (l : Line) (w' : List ℕ) (q : 
   pub taken : LineTaken t w p l w' q
   pub resolved : resolve_line (declarations_in t w p.names) (scope_in t w p.names p.above) l ≡ ok (item t w p l)
 
-unfoldable pub StepIs : (t w : List ℕ) (p : Pass) (l : Line) (w' : List ℕ) → Step → Type 0
-StepIs t w p l w' (Step.On q) = LineRead t w p l w' q
-StepIs t w p l w' (Step.Refused r) =
+unfoldable pub StepIs : (t w : List ℕ) (p : Pass) (l : Line) (w' : List ℕ) → Result Pass Refusal → Type 0
+StepIs t w p l w' (Ok q) = LineRead t w p l w' q
+StepIs t w p l w' (Err r) =
     (resolve_line (declarations_in t w p.names) (scope_in t w p.names p.above) l ≡ no (refusal_of r)) × (length w' ≡ length w)
 
 -- ALL LINES
@@ -114,9 +113,9 @@ pub record AllRead (t w : List ℕ) (p : Pass) : Type 0 where
   pub table : LineTable t w lines
   pub spare : p.atoms + most_filled ≤ most_atom_rows
 
-unfoldable pub ResolvedIs : (t w : List ℕ) → Resolved → Type 0
-ResolvedIs t w (Resolved.Done p) = AllRead t w p
-ResolvedIs t w (Resolved.Refused r l) = resolved_text t ≡ refused (refusal_of r) l
+unfoldable pub ResolvedIs : (t w : List ℕ) → Result Pass RefusedLine → Type 0
+ResolvedIs t w (Ok p) = AllRead t w p
+ResolvedIs t w (Err e) = resolved_text t ≡ refused (refusal_of e.why) e.line
 
 -- THE TEXT
 
@@ -129,8 +128,8 @@ pub record Noted (t w : List ℕ) : Type 0 where
   pub methods : run (λ j. as_method (entry_at t w j)) methods_first (method_count w) ≡ (declarations (lines_of t)).methods
 
 -- the tables in w are those of a text that is read as these items, with room for the atoms of a line that is filled in; u is the first line
--- that number 10 refuses, or 0
-pub record Tabled (t w : List ℕ) (u : ℕ) : Type 0 where
+-- that number 10 refuses, if any
+pub record Tabled (t w : List ℕ) (u : Option ℕ) : Type 0 where
   pub items : List Item
   pub read : read_text t ≡ accepted items
   pub resolved : resolved_text t ≡ accepted items
@@ -140,6 +139,6 @@ pub record Tabled (t w : List ℕ) (u : ℕ) : Type 0 where
   pub spare : atom_count w + most_filled ≤ most_atom_rows
   pub noted : Noted t w
 
-unfoldable pub ReadingIs : (t w : List ℕ) → Reading → Type 0
-ReadingIs t w (Reading.Read u) = Tabled t w u
-ReadingIs t w (Reading.Refused r l) = read_text t ≡ refused (refusal_of r) l
+unfoldable pub ReadingIs : (t w : List ℕ) → Result (Option ℕ) RefusedLine → Type 0
+ReadingIs t w (Ok u) = Tabled t w u
+ReadingIs t w (Err e) = read_text t ≡ refused (refusal_of e.why) e.line

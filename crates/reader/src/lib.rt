@@ -15,10 +15,10 @@ ghost use Rattle.resolve_bodies.specs.Bodies.{Follows};
 ghost use Rattle.resolve_pass.specs.Passes.{first_pass, LineRoom, is_framed, line_after, LineTried};
 ghost use Rattle.reader.specs.Readings.{unframed_by, with_unframed, Between, Written, Begins, StepIs, ResolvedIs, ReadingIs, refusal_of, number_of};
 
-use read_scan::{Scanned, Word};
+use read_scan::Word;
 use read_scopes::{Above, Names, Range};
 use read_types::Fault;
-use resolve_pass::{Pass, TriedLine};
+use resolve_pass::Pass;
 use rules::{Kind, Machine};
 
 // Why a text is refused.
@@ -34,6 +34,51 @@ pub enum Refusal {
     WrongTarget,
 }
 
+impl From<Fault> for Refusal {
+    ghost from_gives = { λ f r. refusal_of r ≡ number_of f };
+
+    #[tactic(auto, unfolding(crate::specs::Readings::refusal_of, crate::specs::Readings::number_of))]
+    fn from(f: Fault) -> Refusal {
+        match f {
+            Fault::Undeclared => Refusal::Undeclared,
+            Fault::WrongType => Refusal::WrongType,
+            Fault::WrongTarget => Refusal::WrongTarget,
+        }
+    }
+}
+
+impl From<read_scan::Refusal> for Refusal {
+    ghost from_gives = { λ s r. refusal_of r ≡ Scans.refusal_of s };
+
+    #[tactic(auto, unfolding(crate::specs::Readings::refusal_of))]
+    fn from(s: read_scan::Refusal) -> Refusal {
+        match s {
+            read_scan::Refusal::BadByte => Refusal::BadByte,
+            read_scan::Refusal::Malformed => Refusal::Malformed,
+            read_scan::Refusal::LimitPassed => Refusal::LimitPassed,
+            read_scan::Refusal::TextEnds => Refusal::TextEnds,
+        }
+    }
+}
+
+// Why a text is refused, and at which line.
+#[derive(Clone, Copy)]
+pub struct RefusedLine {
+    pub why: Refusal,
+    pub line: usize,
+}
+
+impl From<read_scan::RefusedLine> for RefusedLine {
+    ghost from_gives = { λ s r. (refusal_of r.why ≡ Scans.refusal_of s.why) × (r.line ≡ s.line) };
+
+    fn from(s: read_scan::RefusedLine) -> RefusedLine {
+        RefusedLine {
+            why: Refusal::from(s.why),
+            line: s.line,
+        }
+    }
+}
+
 // ONE LINE
 
 fn is_declaration(kind: u8) -> bool
@@ -47,7 +92,7 @@ fn is_declaration(kind: u8) -> bool
 }
 
 // Puts a line of this kind, the word of which ends at r, into the tables if it is good.
-fn try_line(text: &[u8], work: &mut [u8], p: Pass, kind: u8, r: usize) -> TriedLine
+fn try_line(text: &[u8], work: &mut [u8], p: Pass, kind: u8, r: usize) -> Result<Pass, Fault>
     requires { Follows text.now work.old p kind r × IsKindNumber kind × Held work.old p }
     ensures { LineTried text.now work.old p (line_after text.now r kind) work.new result }
 {
@@ -80,37 +125,27 @@ fn is_framed(kind: u8) -> bool
     }
 }
 
-// The first line that number 10 refuses, or 0, after a line of this kind between p and q.
-fn first_unframed(work: &[u8], kind: u8, p: Pass, q: Pass) -> usize
+// The first line that number 10 refuses, if any, after a line of this kind between p and q.
+fn first_unframed(work: &[u8], kind: u8, p: Pass, q: Pass) -> Option<usize>
     requires { Between work.now kind p q }
     ensures { result ≡ unframed_by (is_framed (kind_numbered kind)) (framed_from work.now kind p.atoms (q.atoms - p.atoms)) p }
 {
-    if p.unframed != 0 {
-        return p.unframed;
+    if let Some(line) = p.unframed {
+        return Some(line);
     }
     if is_framed(kind) {
         if resolve_framing::framed_line(work, kind, p.atoms, q.atoms - p.atoms) {
-            return 0;
+            return None;
         }
-        return p.line + 1;
+        return Some(p.line + 1);
     }
-    0
+    None
 }
 
-fn with_unframed(p: Pass, unframed: usize) -> Pass
+fn with_unframed(p: Pass, unframed: Option<usize>) -> Pass
     ensures { result ≡ with_unframed p unframed }
 {
-    let names = p.names;
-    let above = p.above;
-    Pass {
-        names,
-        above,
-        rows: p.rows,
-        atoms: p.atoms,
-        main: p.main,
-        line: p.line,
-        unframed,
-    }
+    Pass { unframed, ..p }
 }
 
 // The pass q after a line of this kind, with the first line that number 10 refuses; p is the pass before it.
@@ -122,43 +157,16 @@ fn take_line(work: &[u8], kind: u8, p: Pass, q: Pass) -> Pass
     with_unframed(q, u)
 }
 
-// What a line is: in the tables, or refused.
-#[derive(Clone, Copy)]
-pub enum Step {
-    On(Pass),
-    Refused(Refusal),
-}
-
-fn fault_refusal(f: Fault) -> Refusal
-    ensures { refusal_of result ≡ number_of f }
-{
-    match f {
-        Fault::Undeclared => Refusal::Undeclared,
-        Fault::WrongType => Refusal::WrongType,
-        Fault::WrongTarget => Refusal::WrongTarget,
-    }
-}
-
 // The line with the word w. Its names are looked up once, as it is written.
-fn read_line(text: &[u8], work: &mut [u8], w: Word, p: Pass) -> Step
+fn read_line(text: &[u8], work: &mut [u8], w: Word, p: Pass) -> Result<Pass, Refusal>
     requires { Begins text.now work.old p w × LineRoom text.now work.old p (line_after text.now w.end w.kind) × Written text.now work.old p }
     ensures { StepIs text.now work.old p (line_after text.now w.end w.kind) work.new result }
 {
-    let t = try_line(text, work, p, w.kind, w.end);
-    match t {
-        TriedLine::Bad(f) => Step::Refused(fault_refusal(f)),
-        TriedLine::On(q) => Step::On(take_line(work, w.kind, p, q)),
-    }
+    let q = try_line(text, work, p, w.kind, w.end)?;
+    Ok(take_line(work, w.kind, p, q))
 }
 
 // ALL LINES
-
-// All lines are in the tables; or why one is refused, and which.
-#[derive(Clone, Copy)]
-pub enum Resolved {
-    Done(Pass),
-    Refused(Refusal, usize),
-}
 
 fn first_pass(names: Names) -> Pass
     ensures { result ≡ first_pass names }
@@ -176,81 +184,60 @@ fn first_pass(names: Names) -> Pass
         atoms: 0,
         main: 0,
         line: 0,
-        unframed: 0,
+        unframed: None,
     }
 }
 
 // Names, types and targets of the n lines of a text that pass 1 takes, whose table and whose declarations stand in the work area.
-fn read_lines(text: &[u8], work: &mut [u8], names: Names, n: usize) -> Resolved
+fn read_lines(text: &[u8], work: &mut [u8], names: Names, n: usize) -> Result<Pass, RefusedLine>
     requires { (length text.now ≤ most_bytes) × (length work.old ≡ work_bytes) × TextTaken text.now × LineTable text.now work.old n × Declares text.now work.old work.old names }
     ensures { ResolvedIs text.now work.new result × (length work.new ≡ work_bytes) }
 {
     let mut p = first_pass(names);
-    let mut i = 0;
-    while i < n {
+    for i in 0..n {
         let w = read_scan::line_word(work, i);
-        let s = read_line(text, work, w, p);
-        match s {
-            Step::Refused(why) => {
-                return Resolved::Refused(why, p.line + 1);
+        match read_line(text, work, w, p) {
+            Err(why) => {
+                let line = p.line + 1;
+                return Err(RefusedLine { why, line });
             }
-            Step::On(q) => {
-                p = q;
-                i += 1;
-            }
+            Ok(q) => p = q,
         }
     }
-    Resolved::Done(p)
+    Ok(p)
 }
 
 // THE TEXT
 
-// A text that is read, with the first line that number 10 refuses, or 0; or why it is refused, and at which line.
-#[derive(Clone, Copy)]
-pub enum Reading {
-    Read(usize),
-    Refused(Refusal, usize),
-}
-
-fn scan_refusal(r: read_scan::Refusal) -> Refusal
-    ensures { refusal_of result ≡ Scans.refusal_of r }
-{
-    match r {
-        read_scan::Refusal::BadByte => Refusal::BadByte,
-        read_scan::Refusal::Malformed => Refusal::Malformed,
-        read_scan::Refusal::LimitPassed => Refusal::LimitPassed,
-        read_scan::Refusal::TextEnds => Refusal::TextEnds,
-    }
-}
-
-// Pass 2 over a text of n lines that pass 1 takes.
-fn resolve(text: &[u8], work: &mut [u8], n: usize) -> Reading
+// Pass 2 over a text of n lines that pass 1 takes: gives the first line that number 10 refuses, if any.
+fn resolve(text: &[u8], work: &mut [u8], n: usize) -> Result<Option<usize>, RefusedLine>
     requires { (length text.now ≤ most_bytes) × (length work.old ≡ work_bytes) × TextTaken text.now × LineTable text.now work.old n }
     ensures { ReadingIs text.now work.new result × (length work.new ≡ work_bytes) }
 {
     let names = read_declarations::declare(text, work, n);
-    let r = read_lines(text, work, names, n);
-    match r {
-        Resolved::Refused(why, line) => Reading::Refused(why, line),
-        Resolved::Done(p) => {
-            let names = p.names;
-            targets::finish(work, p.rows, p.atoms, names.classes, names.methods, p.main);
-            Reading::Read(p.unframed)
-        }
-    }
+    let p = read_lines(text, work, names, n)?;
+    targets::finish(
+        work,
+        p.rows,
+        p.atoms,
+        p.names.classes,
+        p.names.methods,
+        p.main,
+    );
+    Ok(p.unframed)
 }
 
-// The text as tables in the work area, or its number and line.
-pub fn read(text: &[u8], work: &mut [u8]) -> Reading
+// The text as tables in the work area, with the first line that number 10 refuses, if any; or its number and line.
+pub fn read(text: &[u8], work: &mut [u8]) -> Result<Option<usize>, RefusedLine>
     requires { length work.old ≡ work_bytes }
     ensures { ReadingIs text.now work.new result × (length work.new ≡ work_bytes) }
 {
     if Machine::TEXT_BYTES < text.len() {
-        return Reading::Refused(Refusal::TextTooLong, 0);
+        return Err(RefusedLine {
+            why: Refusal::TextTooLong,
+            line: 0,
+        });
     }
-    let s = read_scan::scan(text, work);
-    match s {
-        Scanned::Refused(why, line) => Reading::Refused(scan_refusal(why), line),
-        Scanned::Taken(n) => resolve(text, work, n),
-    }
+    let n = read_scan::scan(text, work)?;
+    resolve(text, work, n)
 }

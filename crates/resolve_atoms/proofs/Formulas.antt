@@ -1,4 +1,5 @@
 -- A formula as the cursor passes it: three fields are an atom, and what is written grows with it.
+use Rattle.std.proofs.Common.{Result, Ok, Err}
 use mathlib.Core.Path.{◌≡◌, refl, sym, ap, ap₂, subst, ◌∙◌}
 use mathlib.Core.Bool.{Bool, true, false}
 use mathlib.Core.List.{List, [], ◌∷◌, ◌++◌, map, append-nil, append_assoc}
@@ -29,8 +30,7 @@ use Rattle.read_scopes.specs.declared.Names.{Names}
 use Rattle.read_scopes.specs.Meanings.{AreaFits, declarations_in, variables_in}
 use Rattle.read_scopes.proofs.Scopes.{names-kept, variables-kept}
 use Rattle.read_types.specs.declared.Fault.{Fault}
-use Rattle.read_types.specs.declared.Verdict.{Verdict}
-use Rattle.read_types.specs.Verdicts.{lower}
+use Rattle.read_types.specs.Verdicts.{Verdict, lower}
 use Rattle.read_types.proofs.Verdicts.{lower-assoc, lower_last, lower-good, not-bad}
 use Rattle.rules.specs.Syntax.{Program}
 use Rattle.write_rows.specs.Puts.{put_atom}
@@ -39,9 +39,7 @@ use Rattle.tables.specs.Tables.{Declared}
 use Rattle.write_rows.specs.Holds.{AtomOk, Building}
 use Rattle.write_rows.proofs.Atoms.{atom-names, atom-length, building, atom-written}
 use Rattle.resolve_atoms.specs.declared.AtomRow.{AtomRow}
-use Rattle.resolve_atoms.specs.declared.TriedAtom.{TriedAtom}
 use Rattle.resolve_atoms.specs.declared.NextAtom.{NextAtom}
-use Rattle.resolve_atoms.specs.declared.Put.{Put}
 use Rattle.resolve_atoms.specs.Good.{atom_judged, atoms_judged}
 use Rattle.resolve_atoms.specs.Written.{Resolved, AtomTried, formula_after, judged_after, AtomFollows, NextTried, FormulaFollows, FormulaTried}
 
@@ -131,7 +129,7 @@ module _
     kind-atom = subst (λ w. is_atom w (part (x + 1) y t) (part (y + 1) z t) ≡ true) i is-atom
 
     pub kind-tried :
-        (Γ : Declarations) (vs : List Variable) (q : TriedAtom) → AtomTried Γ vs (atom_of (atom_word k) (part (x + 1) y t) (part (y + 1) z t)) q →
+        (Γ : Declarations) (vs : List Variable) (q : Result AtomRow Fault) → AtomTried Γ vs (atom_of (atom_word k) (part (x + 1) y t) (part (y + 1) z t)) q →
         AtomTried Γ vs (atom_of (part (r + 1) x t) (part (x + 1) y t) (part (y + 1) z t)) q
     kind-tried Γ vs q a = subst (λ w. AtomTried Γ vs (atom_of w (part (x + 1) y t) (part (y + 1) z t)) q) (sym i) a
 
@@ -156,12 +154,12 @@ module _
     formula-on = ap (map (resolve_atom (declarations_in t w c) (variables_in t w c))) formula-cut
 
     pub next-put :
-        (k : AreaFits w c) (n : ℕ) (q : TriedAtom) (a : AtomRow) (u : List ℕ) → n < most_atom_rows →
-        AtomTried (declarations_in t w c) (variables_in t w c) here q → q ≡ TriedAtom.Row a → u ≡ put_atom w n a.kind a.left a.right →
-        NextTried t w c r n u (record { end = z; verdict = Verdict.Good })
+        (k : AreaFits w c) (n : ℕ) (q : Result AtomRow Fault) (a : AtomRow) (u : List ℕ) → n < most_atom_rows →
+        AtomTried (declarations_in t w c) (variables_in t w c) here q → q ≡ Ok a → u ≡ put_atom w n a.kind a.left a.right →
+        NextTried t w c r n u (record { end = z; verdict = Ok tt })
     unfolding AtomTried
     next-put k n q a u l y i e =
-        let x : (atom_judged (declarations_in t w c) (variables_in t w c) here ≡ Verdict.Good) × Resolved (declarations_in t w c) (variables_in t w c) here a =
+        let x : (atom_judged (declarations_in t w c) (variables_in t w c) here ≡ Ok tt) × Resolved (declarations_in t w c) (variables_in t w c) here a =
         subst (AtomTried (declarations_in t w c) (variables_in t w c) here) i y in
         record {
           atom = resolve_atom (declarations_in t w c) (variables_in t w c) here;
@@ -179,11 +177,11 @@ module _
         }
 
     pub next-bad :
-        (n : ℕ) (q : TriedAtom) (b : Fault) → AtomTried (declarations_in t w c) (variables_in t w c) here q → q ≡ TriedAtom.Bad b →
-        NextTried t w c r n w (record { end = z; verdict = Verdict.Bad b })
+        (n : ℕ) (q : Result AtomRow Fault) (b : Fault) → AtomTried (declarations_in t w c) (variables_in t w c) here q → q ≡ Err b →
+        NextTried t w c r n w (record { end = z; verdict = Err b })
     unfolding AtomTried
     next-bad n q b y i =
-        let x : atom_judged (declarations_in t w c) (variables_in t w c) here ≡ Verdict.Bad b =
+        let x : atom_judged (declarations_in t w c) (variables_in t w c) here ≡ Err b =
         subst (AtomTried (declarations_in t w c) (variables_in t w c) here) i y in
         record {
           atom = resolve_atom (declarations_in t w c) (variables_in t w c) here;
@@ -198,11 +196,11 @@ module _
         }
 
 -- the row of an atom that was tried
-pub row_ok : (Γ : Declarations) (vs : List Variable) (x : Atom Name) (q : TriedAtom) (a : AtomRow) → AtomTried Γ vs x q → q ≡ TriedAtom.Row a →
+pub row_ok : (Γ : Declarations) (vs : List Variable) (x : Atom Name) (q : Result AtomRow Fault) (a : AtomRow) → AtomTried Γ vs x q → q ≡ Ok a →
     AtomOk a.kind a.left a.right
 unfolding AtomTried
 row_ok Γ vs x q a y i =
-    let z : (atom_judged Γ vs x ≡ Verdict.Good) × Resolved Γ vs x a = subst (AtomTried Γ vs x) i y in z.1.ok
+    let z : (atom_judged Γ vs x ≡ Ok tt) × Resolved Γ vs x a = subst (AtomTried Γ vs x) i y in z.1.ok
 
 -- THE LOOP
 
@@ -215,11 +213,11 @@ pub record Writing (t v : List ℕ) (c : Names) (from first : ℕ) (w : List ℕ
   pub done : Formula ℕ
   pub all : formula_after t v c from ≡ done ++ formula_after t v c r
   pub count : n ≡ first + length done
-  pub built : u ≡ Verdict.Good → (D : Declared) (F : Program) → Holds.Holds D v F first → Building D w F first n done
+  pub built : u ≡ Ok tt → (D : Declared) (F : Program) → Holds.Holds D v F first → Building D w F first n done
   pub names : Kept names_at work_bytes v w
   pub size : length w ≡ length v
 
-pub writing-first : {t v : List ℕ} {c : Names} {from first : ℕ} → FormulaFollows t v c most_line_atoms from first → Writing t v c from first v from first Verdict.Good
+pub writing-first : {t v : List ℕ} {c : Names} {from first : ℕ} → FormulaFollows t v c most_line_atoms from first → Writing t v c from first v from first (Ok tt)
 unfolding lower
 writing-first {t} {v} {c} {from} {first} x =
     record {
@@ -258,7 +256,7 @@ module _ {t v : List ℕ} {c : Names} {from first : ℕ} {w : List ℕ} {r n : �
         x.judged
         ∙ (ap (λ ws. lower u (atoms_judged (declarations_in t v c) (variables_in t v c) (formula_of ws))) (no_more t r e) ∙ lower_last u)
 
-    pub writing-done : u ≡ Verdict.Good → FormulaTried t v c from first w (Put.Done n)
+    pub writing-done : u ≡ Ok tt → FormulaTried t v c from first w (Ok n)
     unfolding formula_of formula_after FormulaTried
     writing-done good =
         let z : formula_after t v c r ≡ [] =
@@ -273,7 +271,7 @@ module _ {t v : List ℕ} {c : Names} {from first : ℕ} {w : List ℕ} {r n : �
           },
         )
 
-    pub writing-bad : (f : Fault) → u ≡ Verdict.Bad f → FormulaTried t v c from first w (Put.Bad f)
+    pub writing-bad : (f : Fault) → u ≡ Err f → FormulaTried t v c from first w (Err f)
     unfolding FormulaTried
     writing-bad f bad = (judged-last ∙ bad, x.size)
 

@@ -1,4 +1,5 @@
 -- What the tests of 6, 7 and 9 say of a line of atoms alone is what those of 6 and 7 say of its atoms.
+use Rattle.std.proofs.Common.{Ok}
 use mathlib.Core.Path.{◌≡◌, refl, sym, ap, ◌∙◌}
 use mathlib.Core.Bool.{Bool, true, false, not, cond, ◌&&◌, ◌||◌}
 use mathlib.Core.List.{List, [], ◌∷◌, ◌++◌}
@@ -15,7 +16,6 @@ use Rattle.rules.specs.Scope.{Declarations, Variable, Scope, Slot, slots_from, a
 use Rattle.rules.specs.Names.{agree, expr_type, known, of_class, may_be_assigned, known_expr, of_class_in, known_field, in_scope, is_int, sides_agree, chains, atom_agrees, call_apart, open_apart, all_known, all_typed, all_assignable}
 use Rattle.rules.proofs.LineKinds.{every-kind}
 use Rattle.read_types.specs.declared.Fault.{Fault}
-use Rattle.read_types.specs.declared.Verdict.{Verdict}
 use Rattle.read_types.specs.Verdicts.{test, judged, and_then, lower}
 use Rattle.read_types.specs.Types.{expr_judged}
 use Rattle.read_types.proofs.Verdicts.{lower-judged, then_typed}
@@ -34,7 +34,7 @@ and-swap false false r = refl
 access-order :
     (a b d p k t r : Bool) →
     judged (a && (b && k)) ((d && t) && (p && r)) true
-    ≡ lower (and_then (judged (a && b) d true) (test p Fault.WrongType Verdict.Good)) (judged k (t && r) true)
+    ≡ lower (and_then (judged (a && b) d true) (test p Fault.WrongType (Ok tt))) (judged k (t && r) true)
 access-order a b d p k t r =
     sym
     (ap (λ v. lower v (judged k (t && r) true)) (then_typed (a && b) d p)
@@ -47,10 +47,10 @@ access-order a b d p k t r =
 compared-order :
     (a b d e g k t r : Bool) →
     judged (a && (b && k)) ((d && (e && t)) && (g && r)) true
-    ≡ lower (and_then (lower (judged a d true) (judged b e true)) (test g Fault.WrongType Verdict.Good)) (judged k (t && r) true)
+    ≡ lower (and_then (lower (judged a d true) (judged b e true)) (test g Fault.WrongType (Ok tt))) (judged k (t && r) true)
 compared-order a b d e g k t r =
     sym
-    (ap (λ v. lower (and_then v (test g Fault.WrongType Verdict.Good)) (judged k (t && r) true)) (lower-judged a d true b e true)
+    (ap (λ v. lower (and_then v (test g Fault.WrongType (Ok tt))) (judged k (t && r) true)) (lower-judged a d true b e true)
     ∙ (ap (λ v. lower v (judged k (t && r) true)) (then_typed (a && b) (d && e) g)
     ∙ (lower-judged (a && b) ((d && e) && g) true k (t && r) true ∙ (λ j. judged (and_assoc a b k j) (types d e j) true))))
   where

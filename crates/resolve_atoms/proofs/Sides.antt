@@ -1,4 +1,5 @@
 -- The sides of a resolved atom fit their rows.
+use Rattle.std.proofs.Common.{Result, Ok, Err}
 use mathlib.Core.Path.{◌≡◌, refl, sym, ap, ap₂, subst, ◌∙◌}
 use mathlib.Core.Bool.{Bool, true, false, not, cond, ◌&&◌, ◌||◌}
 use mathlib.Core.List.{List, [], ◌∷◌, ◌++◌}
@@ -8,6 +9,7 @@ use native.Mathlib.Omega.{arith}
 use lib.Dec.{T, eqb}
 use lib.ListN.{length}
 use borrow.Author.Tests.{ltb-true, lt-ltb, le-ltb, ne_eqb, not-true}
+use Rattle.resolve_atoms.specs.declared.AtomRow.{AtomRow}
 use Rattle.rules.specs.Base.{Name, any, index, eq_name, Member}
 use Rattle.rules.specs.Syntax.{Permit, Expr, is_path, num, null, var, path, acc, read, own, cmp}
 use Rattle.rules.specs.Text.{number, numeral, has_stop, is_expr, expr_of, before_stop, after_stop, reserved, is_atom, atom_of}
@@ -30,8 +32,7 @@ use Rattle.read_scopes.specs.declared.Names as Declared
 use Rattle.read_types.specs.declared.Member as Member
 use Rattle.read_types.specs.declared.Lookup as Lookup
 use Rattle.read_types.specs.declared.Fault.{Fault}
-use Rattle.read_types.specs.declared.Verdict.{Verdict}
-use Rattle.read_types.specs.Verdicts.{test, and_then, lower}
+use Rattle.read_types.specs.Verdicts.{Verdict, test, and_then, lower}
 use Rattle.read_types.specs.Types.{expr_judged, chain_judged, type_meant, MemberIs, LookIs}
 use Rattle.read_types.proofs.Verdicts.{lower-good, then-good, judged-good}
 use Rattle.tables.specs.Decode.{run}
@@ -43,7 +44,6 @@ use Rattle.write_rows.specs.Puts.{tag_of}
 use Rattle.tables.specs.Tables.{SideFits}
 use Rattle.write_rows.specs.Holds as Holds
 use Rattle.write_rows.specs.Holds.{access_of}
-use Rattle.resolve_atoms.specs.declared.TriedAtom.{TriedAtom}
 use Rattle.resolve_atoms.specs.Good.{atom_judged}
 use Rattle.resolve_atoms.specs.Written.{IsRelation, Resolved, AtomTried, row_if, permission_row}
 
@@ -142,7 +142,7 @@ module _ (t w : List ℕ) (c : Declared.Names) (fits : NamesFit c) where
   abbrev vs : List Variable
   vs = variables_in t w c
 
-  pub path-fits : (x f : Name) → expr_judged Γ vs (path x f) ≡ Verdict.Good → SideFits (resolve_expr Γ vs (path x f))
+  pub path-fits : (x f : Name) → expr_judged Γ vs (path x f) ≡ Ok tt → SideFits (resolve_expr Γ vs (path x f))
   unfolding expr_judged known_expr of_class_in known_field SideFits resolve_expr
   path-fits x f g =
       let a = judged-good (in_scope vs x && known_field Γ vs x f) (not (is_int vs x)) true g in
@@ -153,11 +153,11 @@ module _ (t w : List ℕ) (c : Declared.Names) (fits : NamesFit c) where
       subst (λ q. (q || any (is_field_of Γ (variable_type vs x) f) Γ.fields) ≡ true) i k.1 in
       (variable-small x b.0, field-small (variable_type vs x) f m)
 
-  expr-fits : (w : Name) → expr_judged Γ vs (expr_of w) ≡ Verdict.Good → SideFits (resolve_expr Γ vs (expr_of w))
+  expr-fits : (w : Name) → expr_judged Γ vs (expr_of w) ≡ Ok tt → SideFits (resolve_expr Γ vs (expr_of w))
   unfolding resolve_expr SideFits expr_judged known_expr of_class_in
   expr-fits w g = go (expr_of w) refl g
     where
-      go : (e : Expr Name) → expr_of w ≡ e → expr_judged Γ vs e ≡ Verdict.Good → SideFits (resolve_expr Γ vs e)
+      go : (e : Expr Name) → expr_of w ≡ e → expr_judged Γ vs e ≡ Ok tt → SideFits (resolve_expr Γ vs e)
       go (num n) i h = number_read w n i
       go null i h = tt
       go (var x) i h = variable-small x (judged-good (in_scope vs x) true true h).0
@@ -166,7 +166,7 @@ module _ (t w : List ℕ) (c : Declared.Names) (fits : NamesFit c) where
   -- ATOMS
   module _ (k : ℕ) (a : IsAccess k) (x f : Name) where
     access-is :
-        (l : Tables.Expr) → expr_judged Γ vs (path x f) ≡ Verdict.Good → meaning l ≡ resolve_expr Γ vs (path x f) →
+        (l : Tables.Expr) → expr_judged Γ vs (path x f) ≡ Ok tt → meaning l ≡ resolve_expr Γ vs (path x f) →
         Resolved Γ vs (own (Decode.permit_of k) x f) (record { kind = k; left = l; right = Tables.Expr.Null })
     unfolding resolve_expr resolve_atom Holds.atom_of Decode.is_permission meaning SideFits
     access-is l g m =
@@ -178,7 +178,7 @@ module _ (t w : List ℕ) (c : Declared.Names) (fits : NamesFit c) where
 
     -- m: what was looked up
     pub permission-tried :
-        (m : Member.Member) (r : TriedAtom) {u : Verdict} → MemberIs t w Γ vs x f u m → u ≡ atom_judged Γ vs (own (Decode.permit_of k) x f) →
+        (m : Member.Member) (r : Result AtomRow Fault) {u : Verdict} → MemberIs t w Γ vs x f u m → u ≡ atom_judged Γ vs (own (Decode.permit_of k) x f) →
         r ≡ permission_row k m → AtomTried Γ vs (own (Decode.permit_of k) x f) r
     unfolding permission_row row_if AtomTried atom_judged resolve_expr meaning
     permission-tried m r h i e = subst (AtomTried Γ vs (own (Decode.permit_of k) x f)) (sym e) (go m.verdict (sym (h.verdict ∙ i)))
@@ -187,13 +187,13 @@ module _ (t w : List ℕ) (c : Declared.Names) (fits : NamesFit c) where
             (v : Verdict) → atom_judged Γ vs (own (Decode.permit_of k) x f) ≡ v →
             AtomTried Γ vs (own (Decode.permit_of k) x f)
             (row_if v (record { kind = k; left = Tables.Expr.Path m.variable m.number; right = Tables.Expr.Null }))
-        go Verdict.Good g =
+        go (Ok u) g =
             (g, access-is (Tables.Expr.Path m.variable m.number) (then-good (expr_judged Γ vs (path x f)) _ g).0 (ap₂ path h.variable.number h.number))
-        go (Verdict.Bad b) g = g
+        go (Err b) g = g
 
   pub compared_is :
       (k : ℕ) (a b : Name) (l r : Tables.Expr) → IsRelation k →
-      expr_judged Γ vs (expr_of a) ≡ Verdict.Good → expr_judged Γ vs (expr_of b) ≡ Verdict.Good → meaning l ≡ resolve_expr Γ vs (expr_of a) →
+      expr_judged Γ vs (expr_of a) ≡ Ok tt → expr_judged Γ vs (expr_of b) ≡ Ok tt → meaning l ≡ resolve_expr Γ vs (expr_of a) →
       meaning r ≡ resolve_expr Γ vs (expr_of b) →
       Resolved Γ vs (cmp (Decode.rel_of k) (expr_of a) (expr_of b)) (record { kind = k; left = l; right = r })
   unfolding resolve_atom Holds.atom_of Decode.is_permission
@@ -214,26 +214,26 @@ module _ (t w : List ℕ) (c : Declared.Names) (fits : NamesFit c) where
     -- the tests of a comparison, by what the look-ups of its sides say
     compared-judged :
         atom_judged Γ vs (cmp (Decode.rel_of k) (expr_of a) (expr_of b))
-        ≡ and_then (lower l.verdict r.verdict) (test (Names.agree (type_meant t l.is) (type_meant t r.is)) Fault.WrongType Verdict.Good)
+        ≡ and_then (lower l.verdict r.verdict) (test (Names.agree (type_meant t l.is) (type_meant t r.is)) Fault.WrongType (Ok tt))
     unfolding atom_judged
     compared-judged = rw (p.verdict, q.verdict, p.is, q.is)
 
     -- v: the verdict of both
     module _ {v : Verdict} (e : v ≡ lower l.verdict r.verdict) where
-      pub side-bad : {f : Fault} → v ≡ Verdict.Bad f → AtomTried Γ vs (cmp (Decode.rel_of k) (expr_of a) (expr_of b)) (TriedAtom.Bad f)
+      pub side-bad : {f : Fault} → v ≡ Err f → AtomTried Γ vs (cmp (Decode.rel_of k) (expr_of a) (expr_of b)) (Err f)
       unfolding AtomTried and_then
       side-bad u = compared-judged ∙ rw (sym e ∙ u)
 
-      module _ (good : v ≡ Verdict.Good) where
+      module _ (good : v ≡ Ok tt) where
         pub apart-bad :
             Names.agree (type_meant t l.is) (type_meant t r.is) ≡ false →
-            AtomTried Γ vs (cmp (Decode.rel_of k) (expr_of a) (expr_of b)) (TriedAtom.Bad Fault.WrongType)
+            AtomTried Γ vs (cmp (Decode.rel_of k) (expr_of a) (expr_of b)) (Err Fault.WrongType)
         unfolding AtomTried and_then test
         apart-bad y = compared-judged ∙ rw (sym e ∙ good, y)
 
         pub compared-row :
             IsRelation k → Names.agree (type_meant t l.is) (type_meant t r.is) ≡ true →
-            AtomTried Γ vs (cmp (Decode.rel_of k) (expr_of a) (expr_of b)) (TriedAtom.Row (record { kind = k; left = l.expr; right = r.expr }))
+            AtomTried Γ vs (cmp (Decode.rel_of k) (expr_of a) (expr_of b)) (Ok (record { kind = k; left = l.expr; right = r.expr }))
         unfolding AtomTried and_then test
         compared-row i y =
             let s = lower-good l.verdict r.verdict (sym e ∙ good) in (
@@ -261,17 +261,17 @@ module _ (k : ℕ) (a b : Name) (form : is_atom (atom_word k) a b ≡ true) wher
     unfolding atom_judged Decode.permit_of is_path test and_then
     access-judged l = rw (ne_eqb k chain_atom (λ e. omega arith)) (go (eqb k 2) (expr_judged Γ vs (path a b)))
       where
-        go : (p : Bool) (v : Verdict) → v ≡ and_then v (test (is_path (cond p acc read) || Names.chains Γ vs a b) Fault.WrongType Verdict.Good)
-        go true Verdict.Good = refl
-        go true (Verdict.Bad f) = refl
-        go false Verdict.Good = refl
-        go false (Verdict.Bad f) = refl
+        go : (p : Bool) (v : Verdict) → v ≡ and_then v (test (is_path (cond p acc read) || Names.chains Γ vs a b) Fault.WrongType (Ok tt))
+        go true (Ok u) = refl
+        go true (Err f) = refl
+        go false (Ok u) = refl
+        go false (Err f) = refl
 
     pub chain-judged : k ≡ chain_atom → chain_judged Γ vs a b ≡ atom_judged Γ vs (own (Decode.permit_of k) a b)
     unfolding atom_judged chain_judged Decode.permit_of is_path
     chain-judged e = rw e
 
-  module _ (Γ : Declarations) (vs : List Variable) (r : TriedAtom) where
+  module _ (Γ : Declarations) (vs : List Variable) (r : Result AtomRow Fault) where
     pub access-tried : k < eq_atom → AtomTried Γ vs (own (Decode.permit_of k) a b) r → AtomTried Γ vs (atom_of (atom_word k) a b) r
     access-tried l x = subst (λ y. AtomTried Γ vs y r) (sym (permission-of a b k kind-is.0 l)) x
 

@@ -1,5 +1,6 @@
 -- An atom and a formula of a line, resolved and written.
-use Rattle.std.specs.Prelude.{◌≡◌, true, List, [], ◌∷◌, ◌++◌, map, ℕ, suc, ◌+◌, ◌≤◌, ◌<◌, length, get_or, drop}
+use Rattle.std.specs.Prelude.{Result, Ok, Err, ◌≡◌, true, List, [], ◌∷◌, ◌++◌, map, ℕ, suc, ◌+◌, ◌≤◌, ◌<◌, length, get_or, drop}
+use Rattle.read_types.specs.declared.Fault.{Fault}
 use Rattle.rules.specs.Base.{Name}
 use Rattle.rules.specs.Limits.{work_bytes}
 use Rattle.rules.specs.Syntax.{Atom, Formula}
@@ -14,14 +15,11 @@ use Rattle.tables.specs.Stores.{Kept}
 use Rattle.read_scopes.specs.declared.Names.{Names}
 use Rattle.read_scopes.specs.Meanings.{declarations_in, variables_in}
 use Rattle.read_types.specs.declared.Member.{Member}
-use Rattle.read_types.specs.declared.Verdict.{Verdict}
-use Rattle.read_types.specs.Verdicts.{lower}
+use Rattle.read_types.specs.Verdicts.{Verdict, lower}
 use Rattle.rules.specs.Syntax.{Program}
 use Rattle.tables.specs.Tables.{Declared}
 use Rattle.write_rows.specs.Holds.{AtomOk, atom_of, Holds, Building}
 use Rattle.resolve_atoms.specs.declared.AtomRow.{AtomRow}
-use Rattle.resolve_atoms.specs.declared.TriedAtom.{TriedAtom}
-use Rattle.resolve_atoms.specs.declared.Put.{Put}
 use Rattle.resolve_atoms.specs.declared.NextAtom.{NextAtom}
 use Rattle.resolve_atoms.specs.Good.{atom_judged, atoms_judged}
 
@@ -35,20 +33,20 @@ pub record Resolved (Γ : Declarations) (vs : List Variable) (x : Atom Name) (r 
   pub ok : AtomOk r.kind r.left r.right
 
 -- it has a row just if it is good
-unfoldable pub AtomTried : Declarations → List Variable → Atom Name → TriedAtom → Type 0
-AtomTried Γ vs x (TriedAtom.Row r) = (atom_judged Γ vs x ≡ Verdict.Good) × Resolved Γ vs x r
-AtomTried Γ vs x (TriedAtom.Bad f) = atom_judged Γ vs x ≡ Verdict.Bad f
+unfoldable pub AtomTried : Declarations → List Variable → Atom Name → Result AtomRow Fault → Type 0
+AtomTried Γ vs x (Ok r) = (atom_judged Γ vs x ≡ Ok tt) × Resolved Γ vs x r
+AtomTried Γ vs x (Err f) = atom_judged Γ vs x ≡ Err f
 
-unfoldable pub row_if : Verdict → AtomRow → TriedAtom
-row_if Verdict.Good r = TriedAtom.Row r
-row_if (Verdict.Bad f) r = TriedAtom.Bad f
+unfoldable pub row_if : Verdict → AtomRow → Result AtomRow Fault
+row_if (Ok u) r = Ok r
+row_if (Err f) r = Err f
 
 -- the permission of the kind k to what was looked up, if that is good
-unfoldable pub permission_row : ℕ → Member → TriedAtom
+unfoldable pub permission_row : ℕ → Member → Result AtomRow Fault
 permission_row k m = row_if m.verdict (record { kind = k; left = Expr.Path m.variable m.number; right = Expr.Null })
 
 -- by the rows of names in w
-abbrev pub AtomTriedIn : List ℕ → List ℕ → Names → Atom Name → TriedAtom → Type 0
+abbrev pub AtomTriedIn : List ℕ → List ℕ → Names → Atom Name → Result AtomRow Fault → Type 0
 AtomTriedIn t w c x q = AtomTried (declarations_in t w c) (variables_in t w c) x q
 
 -- after the field that ends at r stands an atom of a formula
@@ -76,7 +74,7 @@ module _ (t w : List ℕ) (c : Names) where
     pub judged : judged_after r ≡ lower x.verdict (judged_after x.end)
     pub is : formula_after r ≡ atom ∷ formula_after x.end
     pub built :
-        x.verdict ≡ Verdict.Good → (D : Declared) (F : Program) (a : ℕ) (φ : Formula ℕ) → Building D w F a n φ →
+        x.verdict ≡ Ok tt → (D : Declared) (F : Program) (a : ℕ) (φ : Formula ℕ) → Building D w F a n φ →
         Building D w' F a (n + 1) (φ ++ (atom ∷ []))
     pub names : Kept names_at work_bytes w w'
     pub size : length w' ≡ length w
@@ -95,6 +93,6 @@ module _ (t w : List ℕ) (c : Names) where
     pub size : length w' ≡ length w
 
   -- it is written just if its atoms are good
-  unfoldable pub FormulaTried : (r n : ℕ) (w' : List ℕ) → Put → Type 0
-  FormulaTried r n w' (Put.Done m) = (judged_after r ≡ Verdict.Good) × FormulaPut r n w' m
-  FormulaTried r n w' (Put.Bad f) = (judged_after r ≡ Verdict.Bad f) × (length w' ≡ length w)
+  unfoldable pub FormulaTried : (r n : ℕ) (w' : List ℕ) → Result ℕ Fault → Type 0
+  FormulaTried r n w' (Ok m) = (judged_after r ≡ Ok tt) × FormulaPut r n w' m
+  FormulaTried r n w' (Err f) = (judged_after r ≡ Err f) × (length w' ≡ length w)

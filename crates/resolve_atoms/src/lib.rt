@@ -11,7 +11,7 @@ ghost use Rattle.read_scopes.specs.Meanings.{AreaFits};
 ghost use Rattle.resolve_atoms.specs.Written.{IsRelation, permission_row, AtomTriedIn, AtomFollows, NextTried, FormulaFollows, FormulaTried};
 
 use read_scopes::Names;
-use read_types::{Fault, Member, Verdict};
+use read_types::{Fault, Member};
 use tables::{AtomKind, Expr};
 
 // An atom as a row has it: its kind (`AtomKind`) and its sides.
@@ -22,65 +22,51 @@ pub struct AtomRow {
     pub right: Expr,
 }
 
-// An atom tried: its row, or why it is refused.
-#[derive(Clone, Copy)]
-pub enum TriedAtom {
-    Row(AtomRow),
-    Bad(Fault),
-}
-
 // An atom of a line tried: where it ends.
 #[derive(Clone, Copy)]
 pub struct NextAtom {
     pub end: usize,
-    pub verdict: Verdict,
-}
-
-// What is written: the number after it; nothing of it counts if it is refused.
-#[derive(Clone, Copy)]
-pub enum Put {
-    Done(usize),
-    Bad(Fault),
+    pub verdict: Result<(), Fault>,
 }
 
 // ONE ATOM
 
 // `acc x f`, `read x f` or `chain x f`, by its kind, of what was looked up
-fn permission(kind: usize, m: Member) -> TriedAtom
+#[tactic(auto, unfolding(crate::specs::Written::permission_row, crate::specs::Written::row_if))]
+fn permission(kind: usize, m: Member) -> Result<AtomRow, Fault>
     ensures { result ≡ permission_row kind m }
 {
-    let v = m.verdict;
-    match v {
-        Verdict::Bad(f) => TriedAtom::Bad(f),
-        Verdict::Good => TriedAtom::Row(AtomRow {
-            kind,
-            left: Expr::Path(m.variable, m.number),
-            right: Expr::Null,
-        }),
-    }
+    m.verdict?;
+    Ok(AtomRow {
+        kind,
+        left: Expr::Path(m.variable, m.number),
+        right: Expr::Null,
+    })
 }
 
 // `eq` or `ne`, by its kind
-fn compared(text: &[u8], work: &[u8], c: Names, kind: usize, a: &[u8], b: &[u8]) -> TriedAtom
+fn compared(
+    text: &[u8],
+    work: &[u8],
+    c: Names,
+    kind: usize,
+    a: &[u8],
+    b: &[u8],
+) -> Result<AtomRow, Fault>
     requires { AreaFits work.now c × IsRelation kind × ((is_expr a.now ≡ true) × (is_expr b.now ≡ true)) }
     ensures { AtomTriedIn text.now work.now c (cmp (rel_of kind) (expr_of a.now) (expr_of b.now)) result }
 {
     let x = read_types::look(text, work, c, a);
     let y = read_types::look(text, work, c, b);
-    let p = x.verdict;
-    let q = y.verdict;
-    let v = read_types::lower(p, q);
-    if let Verdict::Bad(f) = v {
-        return TriedAtom::Bad(f);
+    read_types::lower(x.verdict, y.verdict)?;
+    if !read_types::agree(text, x.is, y.is) {
+        return Err(Fault::WrongType);
     }
-    let s = x.is;
-    let u = y.is;
-    if !read_types::agree(text, s, u) {
-        return TriedAtom::Bad(Fault::WrongType);
-    }
-    let left = x.expr;
-    let right = y.expr;
-    TriedAtom::Row(AtomRow { kind, left, right })
+    Ok(AtomRow {
+        kind,
+        left: x.expr,
+        right: y.expr,
+    })
 }
 
 // The atom of this kind with these two fields after its word.
@@ -91,7 +77,7 @@ pub fn resolve_atom(
     kind: usize,
     a: &[u8],
     b: &[u8],
-) -> TriedAtom
+) -> Result<AtomRow, Fault>
     requires { AreaFits work.now c × (is_atom (atom_word kind) a.now b.now ≡ true) }
     ensures { AtomTriedIn text.now work.now c (atom_of (atom_word kind) a.now b.now) result }
 {
@@ -118,42 +104,42 @@ fn put_next_atom(text: &[u8], work: &mut [u8], r: usize, n: usize, c: Names) -> 
     let z = read_fields::next_field(text, y);
     let i = x + 1;
     let j = y + 1;
-    let t = resolve_atom(text, work, c, kind, &text[i..y], &text[j..z]);
-    match t {
-        TriedAtom::Bad(f) => NextAtom {
+    match resolve_atom(text, work, c, kind, &text[i..y], &text[j..z]) {
+        Err(f) => NextAtom {
             end: z,
-            verdict: Verdict::Bad(f),
+            verdict: Err(f),
         },
-        TriedAtom::Row(a) => {
-            let left = a.left;
-            let right = a.right;
-            write_rows::put_atom(work, n, a.kind, left, right);
+        Ok(a) => {
+            write_rows::put_atom(work, n, a.kind, a.left, a.right);
             NextAtom {
                 end: z,
-                verdict: Verdict::Good,
+                verdict: Ok(()),
             }
         }
     }
 }
 
-// Writes the formula of the fields after `from` as the atoms from `first` on, and gives the number after its last. The atoms after one
-// of a wrong type may name what is not declared.
-pub fn put_formula(text: &[u8], work: &mut [u8], from: usize, first: usize, c: Names) -> Put
+// Writes the formula of the fields after `from` as the atoms from `first` on, and gives the number after its last; nothing of it counts
+// if it is refused. The atoms after one of a wrong type may name what is not declared.
+pub fn put_formula(
+    text: &[u8],
+    work: &mut [u8],
+    from: usize,
+    first: usize,
+    c: Names,
+) -> Result<usize, Fault>
     requires { AreaFits work.old c × FormulaFollows text.now work.old c most_line_atoms from first }
     ensures { FormulaTried text.now work.old c from first work.new result }
 {
     let mut r = from;
     let mut n = first;
-    let mut v = Verdict::Good;
+    let mut v = Ok(());
     while read_bytes::byte_at(text, r) == b'\t' {
         let p = put_next_atom(text, work, r, n, c);
-        let u = p.verdict;
-        v = read_types::lower(v, u);
+        v = read_types::lower(v, p.verdict);
         r = p.end;
         n += 1;
     }
-    match v {
-        Verdict::Good => Put::Done(n),
-        Verdict::Bad(f) => Put::Bad(f),
-    }
+    v?;
+    Ok(n)
 }

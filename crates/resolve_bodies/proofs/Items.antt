@@ -1,4 +1,6 @@
 -- A line by its kind: what the writer of its row or formula asks, and that what it leaves is the line's item.
+use Rattle.std.proofs.Common.{Result, Ok, Err}
+use Rattle.read_types.specs.Verdicts.{Verdict}
 use mathlib.Core.Path.{◌≡◌, refl, sym, ap, subst, ◌∙◌}
 use mathlib.Core.Bool.{Bool, true, false, not, cond, ◌||◌}
 use mathlib.Core.List.{List, [], ◌∷◌, ◌++◌, map}
@@ -37,10 +39,8 @@ use Rattle.write_rows.specs.Holds.{Holds}
 use Rattle.resolve_pass.specs.declared.Pass.{Pass}
 use Rattle.resolve_pass.specs.Passes.{counts, after, with_block, names_after, seen_by, has_atoms, atoms_at_most, is_framed, stated_formula, framed_formula, item, Stands, line_after, line_judged, judged_here, BadLine}
 use Rattle.read_declarations.specs.Declares.{line_with}
-use Rattle.resolve_atoms.specs.declared.Put.{Put}
 use Rattle.resolve_atoms.specs.Written.{formula_after, judged_after, FormulaFollows}
 use Rattle.read_types.specs.declared.Fault.{Fault}
-use Rattle.read_types.specs.declared.Verdict.{Verdict}
 use Rattle.resolve_atoms.proofs.Goods.{formula-judged}
 use Rattle.write_plain.specs.Plain.{is_plain, PlainFollows, PlainPut, PlainTried}
 use Rattle.write_formulas.specs.Claims.{is_claim, has_condition, loop_with, claim_of, ClaimFollows, ClaimPut, HeaderPut, ClaimTried, HeaderTried}
@@ -467,41 +467,41 @@ module _ {t w : List ℕ} {p : Pass} {k r : ℕ} (x : Follows t w p k r) {c : Na
 
   -- AS IT IS TRIED
   pub side-tried :
-      (a : Statement) (e : kind_numbered k ≡ statement a) → has_atoms (statement a) ≡ true → is_framed (statement a) ≡ false → (v : List ℕ) (y : Put) →
+      (a : Statement) (e : kind_numbered k ≡ statement a) → has_atoms (statement a) ≡ true → is_framed (statement a) ≡ false → (v : List ℕ) (y : Result ℕ Fault) →
       SideTried a t w c r p.rows p.atoms (p.line + 1) v y → ItemTried t w p (line_after t r k) v y
   unfolding SideTried ItemTried
-  side-tried a e h n v (Put.Done m) y = (judged-as x g (statement a) e ∙ y.0 (S x), side-put a e h n y.1)
-  side-tried a e h n v (Put.Bad f) y = (judged-as x g (statement a) e ∙ y.0 (S x), y.1)
+  side-tried a e h n v (Ok m) y = (judged-as x g (statement a) e ∙ y.0 (S x), side-put a e h n y.1)
+  side-tried a e h n v (Err f) y = (judged-as x g (statement a) e ∙ y.0 (S x), y.1)
 
   pub plain-tried :
-      IsStatementNumber k → (k ≡ 17 → ⊥) → (k ≡ 21 → ⊥) → (v : List ℕ) (b : Verdict) (z : Put) → z ≡ done_if b p.atoms →
+      IsStatementNumber k → (k ≡ 17 → ⊥) → (k ≡ 21 → ⊥) → (v : List ℕ) (b : Verdict) (z : Result ℕ Fault) → z ≡ done_if b p.atoms →
       PlainTried t w c k r p.rows (p.line + 1) v b → ItemTried t w p (line_after t r k) v z
   unfolding PlainTried ItemTried done_if
-  plain-tried h n m v Verdict.Good z i y =
+  plain-tried h n m v (Ok u) z i y =
       subst (ItemTried t w p (line_after t r k) v) (sym i) (judged-as x g (kind_numbered k) refl ∙ y.0 (S x), plain-put h n m y.1)
-  plain-tried h n m v (Verdict.Bad f) z i y =
+  plain-tried h n m v (Err f) z i y =
       subst (ItemTried t w p (line_after t r k) v) (sym i) (judged-as x g (kind_numbered k) refl ∙ y.0 (S x), ap length y.1)
 
   pub claim-tried :
-      is_claim k ≡ true → (v : List ℕ) (y : Put) → ClaimTried t w c k r p.rows p.atoms (p.line + 1) v y → ItemTried t w p (line_after t r k) v y
+      is_claim k ≡ true → (v : List ℕ) (y : Result ℕ Fault) → ClaimTried t w c k r p.rows p.atoms (p.line + 1) v y → ItemTried t w p (line_after t r k) v y
   unfolding ClaimTried ItemTried
-  claim-tried i v (Put.Done m) y = (formula-here x g (kind_numbered k) refl (claim-is k i).operands ∙ y.0, claim-put i y.1)
-  claim-tried i v (Put.Bad f) y = (formula-here x g (kind_numbered k) refl (claim-is k i).operands ∙ y.0, y.1)
+  claim-tried i v (Ok m) y = (formula-here x g (kind_numbered k) refl (claim-is k i).operands ∙ y.0, claim-put i y.1)
+  claim-tried i v (Err f) y = (formula-here x g (kind_numbered k) refl (claim-is k i).operands ∙ y.0, y.1)
 
   pub header-tried :
-      {K : Kind} {z : Formula ℕ → Item} → Formulaic K z → kind_numbered k ≡ K → (n : ℕ) → suc n ≡ after p.above.methods → (v : List ℕ) (y : Put) →
+      {K : Kind} {z : Formula ℕ → Item} → Formulaic K z → kind_numbered k ≡ K → (n : ℕ) → suc n ≡ after p.above.methods → (v : List ℕ) (y : Result ℕ Fault) →
       HeaderTried z t w c r n p.atoms v y → ItemTried t w p (line_after t r k) v y
   unfolding HeaderTried ItemTried
-  header-tried {K} f e n l v (Put.Done m) y = (formula-here x g K e f.operands ∙ y.0, header-put f e n l y.1)
-  header-tried {K} f e n l v (Put.Bad b) y = (formula-here x g K e f.operands ∙ y.0, y.1)
+  header-tried {K} f e n l v (Ok m) y = (formula-here x g K e f.operands ∙ y.0, header-put f e n l y.1)
+  header-tried {K} f e n l v (Err b) y = (formula-here x g K e f.operands ∙ y.0, y.1)
 
 -- BY ITS CASES
-module _ {t w : List ℕ} {p : Pass} {l : Line} {v : List ℕ} {y : Put} (x : ItemTried t w p l v y) where
-  pub item-done : (m : ℕ) → y ≡ Put.Done m → (judged_here t w p l ≡ Verdict.Good) × ItemPut t w p l v m
+module _ {t w : List ℕ} {p : Pass} {l : Line} {v : List ℕ} {y : Result ℕ Fault} (x : ItemTried t w p l v y) where
+  pub item-done : (m : ℕ) → y ≡ Ok m → (judged_here t w p l ≡ Ok tt) × ItemPut t w p l v m
   unfolding ItemTried
   item-done m e = subst (ItemTried t w p l v) e x
 
 pub item-bad :
-    (t w : List ℕ) (p : Pass) (l : Line) (v : List ℕ) (y : Put) (f : Fault) → ItemTried t w p l v y → y ≡ Put.Bad f → BadLine t w p l v f
+    (t w : List ℕ) (p : Pass) (l : Line) (v : List ℕ) (y : Result ℕ Fault) (f : Fault) → ItemTried t w p l v y → y ≡ Err f → BadLine t w p l v f
 unfolding ItemTried
 item-bad t w p l v y f x e = subst (ItemTried t w p l v) e x

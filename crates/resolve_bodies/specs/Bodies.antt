@@ -1,5 +1,7 @@
 -- A line that writes a statement or a formula of a method: what it needs, and what it writes.
-use Rattle.std.specs.Prelude.{◌≡◌, true, List, ℕ, suc, ◌+◌, ◌-◌, ◌≤◌, ◌<◌, length}
+use Rattle.read_types.specs.declared.Fault.{Fault}
+use Rattle.read_types.specs.Verdicts.{Verdict}
+use Rattle.std.specs.Prelude.{Result, Ok, Err, ◌≡◌, true, List, ℕ, suc, ◌+◌, ◌-◌, ◌≤◌, ◌<◌, length}
 use Rattle.rules.specs.Limits.{work_bytes}
 use Rattle.rules.specs.Grammar.{Line, statement, Loop, kind_number, requires_kind, ensures_kind}
 use Rattle.read_grammar.specs.Rows.{kind_numbered}
@@ -12,8 +14,6 @@ use Rattle.read_declarations.specs.Declares.{FormedAfter}
 use Rattle.write_rows.specs.Holds.{Holds}
 use Rattle.resolve_pass.specs.declared.Pass.{Pass}
 use Rattle.resolve_pass.specs.Passes.{counts, atoms_at_most, is_framed, framed_formula, item, PassFits, Stands, LineRoom, line_after, judged_here, BadLine}
-use Rattle.read_types.specs.declared.Verdict.{Verdict}
-use Rattle.resolve_atoms.specs.declared.Put.{Put}
 
 -- the number of `requires` or of `ensures`
 abbrev pub IsHeader : ℕ → Type 0
@@ -39,11 +39,11 @@ pub record ItemPut (t w : List ℕ) (p : Pass) (l : Line) (w' : List ℕ) (m : �
   pub size : length w' ≡ length w
 
 -- it is written just if it is good
-unfoldable pub ItemTried : (t w : List ℕ) (p : Pass) (l : Line) (w' : List ℕ) → Put → Type 0
-ItemTried t w p l w' (Put.Done m) = (judged_here t w p l ≡ Verdict.Good) × ItemPut t w p l w' m
-ItemTried t w p l w' (Put.Bad f) = BadLine t w p l w' f
+unfoldable pub ItemTried : (t w : List ℕ) (p : Pass) (l : Line) (w' : List ℕ) → Result ℕ Fault → Type 0
+ItemTried t w p l w' (Ok m) = (judged_here t w p l ≡ Ok tt) × ItemPut t w p l w' m
+ItemTried t w p l w' (Err f) = BadLine t w p l w' f
 
 -- by what is said of a row without atoms
-unfoldable pub done_if : Verdict → ℕ → Put
-done_if Verdict.Good n = Put.Done n
-done_if (Verdict.Bad f) n = Put.Bad f
+unfoldable pub done_if : Verdict → ℕ → Result ℕ Fault
+done_if (Ok u) n = Ok n
+done_if (Err f) n = Err f

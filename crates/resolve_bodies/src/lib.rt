@@ -5,12 +5,11 @@ ghost use Rattle.std.specs.Prelude.{◌≡◌, not, ◌&&◌};
 ghost use Rattle.rules.specs.Grammar.{IsKindNumber, IsStatementNumber};
 ghost use Rattle.read_grammar.specs.Rows.{kind_numbered};
 ghost use Rattle.resolve_pass.specs.Passes.{seen_by, names_after, line_after, LineTried};
-ghost use Rattle.resolve_bodies.specs.Bodies.{IsHeader, Follows, ItemTried, done_if};
+ghost use Rattle.resolve_bodies.specs.Bodies.{IsHeader, Follows, ItemTried};
 
 use read_scopes::Names;
-use read_types::Verdict;
-use resolve_atoms::Put;
-use resolve_pass::{Pass, TriedLine};
+use read_types::Fault;
+use resolve_pass::Pass;
 use rules::Kind;
 
 fn unless(a: bool, b: bool) -> bool
@@ -24,14 +23,9 @@ pub fn seen(c: Names, kind: u8) -> Names
     requires { IsKindNumber kind }
     ensures { result ≡ seen_by (kind_numbered kind) c }
 {
-    let result = unless(c.method, kind == Kind::REQUIRES);
     Names {
-        classes: c.classes,
-        fields: c.fields,
-        methods: c.methods,
-        method: c.method,
-        locals: c.locals,
-        result,
+        result: unless(c.method, kind == Kind::REQUIRES),
+        ..c
     }
 }
 
@@ -44,31 +38,19 @@ fn names_after(c: Names, kind: u8) -> Names
         return c;
     }
     Names {
-        classes: c.classes,
-        fields: c.fields,
-        methods: c.methods,
         method: false,
         locals: 0,
         result: false,
-    }
-}
-
-fn done_if(v: Verdict, n: usize) -> Put
-    ensures { result ≡ done_if v n }
-{
-    match v {
-        Verdict::Good => Put::Done(n),
-        Verdict::Bad(f) => Put::Bad(f),
+        ..c
     }
 }
 
 // Writes the atoms and the row of a statement, if it is good; gives the number after its last atom.
-fn put_row(text: &[u8], work: &mut [u8], p: Pass, kind: u8, r: usize) -> Put
+fn put_row(text: &[u8], work: &mut [u8], p: Pass, kind: u8, r: usize) -> Result<usize, Fault>
     requires { Follows text.now work.old p kind r × IsStatementNumber kind }
     ensures { ItemTried text.now work.old p (line_after text.now r kind) work.new result }
 {
-    let names = p.names;
-    let c = seen(names, kind);
+    let c = seen(p.names, kind);
     let i = p.rows;
     let n = p.atoms;
     let line = p.line + 1;
@@ -79,44 +61,41 @@ fn put_row(text: &[u8], work: &mut [u8], p: Pass, kind: u8, r: usize) -> Put
         Kind::IF => write_sides::put_if(text, work, c, r, i, n, line),
         Kind::JOIN => write_formulas::put_claim(text, work, c, kind, r, i, n, line),
         Kind::LOOP => write_formulas::put_claim(text, work, c, kind, r, i, n, line),
-        _ => done_if(write_plain::put_plain(text, work, c, kind, r, i, line), n),
-    }
-}
-
-// Writes the line of a statement, the word of which ends at r, if it is good.
-pub fn put_statement(text: &[u8], work: &mut [u8], p: Pass, kind: u8, r: usize) -> TriedLine
-    requires { Follows text.now work.old p kind r × IsStatementNumber kind }
-    ensures { LineTried text.now work.old p (line_after text.now r kind) work.new result }
-{
-    let t = put_row(text, work, p, kind, r);
-    match t {
-        Put::Bad(f) => TriedLine::Bad(f),
-        Put::Done(atoms) => {
-            let before = p.names;
-            let names = names_after(before, kind);
-            let above = p.above;
-            TriedLine::On(Pass {
-                names,
-                above,
-                rows: p.rows + 1,
-                atoms,
-                main: p.main,
-                line: p.line + 1,
-                unframed: p.unframed,
-            })
+        _ => {
+            write_plain::put_plain(text, work, c, kind, r, i, line)?;
+            Ok(n)
         }
     }
 }
 
+// Writes the line of a statement, the word of which ends at r, if it is good.
+pub fn put_statement(
+    text: &[u8],
+    work: &mut [u8],
+    p: Pass,
+    kind: u8,
+    r: usize,
+) -> Result<Pass, Fault>
+    requires { Follows text.now work.old p kind r × IsStatementNumber kind }
+    ensures { LineTried text.now work.old p (line_after text.now r kind) work.new result }
+{
+    let atoms = put_row(text, work, p, kind, r)?;
+    Ok(Pass {
+        names: names_after(p.names, kind),
+        rows: p.rows + 1,
+        atoms,
+        line: p.line + 1,
+        ..p
+    })
+}
+
 // Writes the atoms of the requires or the ensures of the last method, if they are good; gives the number after the last of them.
-fn put_formula(text: &[u8], work: &mut [u8], p: Pass, kind: u8, r: usize) -> Put
+fn put_formula(text: &[u8], work: &mut [u8], p: Pass, kind: u8, r: usize) -> Result<usize, Fault>
     requires { Follows text.now work.old p kind r × IsHeader kind }
     ensures { ItemTried text.now work.old p (line_after text.now r kind) work.new result }
 {
-    let names = p.names;
-    let c = seen(names, kind);
-    let above = p.above;
-    let own = above.methods;
+    let c = seen(p.names, kind);
+    let own = p.above.methods;
     let m = own.first + own.count - 1;
     let n = p.atoms;
     match kind {
@@ -126,25 +105,14 @@ fn put_formula(text: &[u8], work: &mut [u8], p: Pass, kind: u8, r: usize) -> Put
 }
 
 // Writes the line `requires` or `ensures`, the word of which ends at r, if it is good.
-pub fn put_header(text: &[u8], work: &mut [u8], p: Pass, kind: u8, r: usize) -> TriedLine
+pub fn put_header(text: &[u8], work: &mut [u8], p: Pass, kind: u8, r: usize) -> Result<Pass, Fault>
     requires { Follows text.now work.old p kind r × IsHeader kind }
     ensures { LineTried text.now work.old p (line_after text.now r kind) work.new result }
 {
-    let t = put_formula(text, work, p, kind, r);
-    match t {
-        Put::Bad(f) => TriedLine::Bad(f),
-        Put::Done(atoms) => {
-            let names = p.names;
-            let above = p.above;
-            TriedLine::On(Pass {
-                names,
-                above,
-                rows: p.rows,
-                atoms,
-                main: p.main,
-                line: p.line + 1,
-                unframed: p.unframed,
-            })
-        }
-    }
+    let atoms = put_formula(text, work, p, kind, r)?;
+    Ok(Pass {
+        atoms,
+        line: p.line + 1,
+        ..p
+    })
 }

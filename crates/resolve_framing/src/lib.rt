@@ -48,9 +48,7 @@ fn has_access(work: &[u8], first: usize, n: usize, x: usize, f: usize) -> bool
     requires { (length work.now ≡ work_bytes) × (first + n ≤ most_atom_rows) }
     ensures { result ≡ framed_expr (accesses work.now first n) (path x f) }
 {
-    let mut i = n;
-    while i > 0 {
-        i -= 1;
+    for i in (0..n).rev() {
         if is_access_of(work, first + i, x, f) {
             return true;
         }
@@ -96,12 +94,10 @@ fn framed(work: &[u8], first: usize, count: usize) -> bool
     requires { (length work.now ≡ work_bytes) × (first + count ≤ most_atom_rows) }
     ensures { result ≡ framed [] (atoms_from work.now first count) }
 {
-    let mut i = 0;
-    while i < count {
+    for i in 0..count {
         if !framed_atom(work, first, i, first + i) {
             return false;
         }
-        i += 1;
     }
     true
 }

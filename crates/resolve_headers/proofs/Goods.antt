@@ -1,4 +1,5 @@
 -- What the tests of numbers 6, 7 and 9 say of `class`, `main`, `var`, `field` and `method` lines.
+use Rattle.std.proofs.Common.{Ok, Err}
 use mathlib.Core.Path.{◌≡◌, refl, sym, ap, subst, ◌∙◌}
 use mathlib.Core.Bool.{Bool, true, false, ◌&&◌}
 use mathlib.Core.List.{List, [], ◌∷◌, map}
@@ -23,11 +24,9 @@ use Rattle.read_names.specs.Rows.{name_in, entry_of}
 use Rattle.read_scopes.specs.Meanings.{declarations_in, block_in, variables_in, scope_in}
 use Rattle.read_lookups.specs.LookUps.{is_new}
 use Rattle.read_types.specs.declared.Fault.{Fault}
-use Rattle.read_types.specs.declared.Verdict.{Verdict}
-use Rattle.read_types.specs.Verdicts.{test, judged}
+use Rattle.read_types.specs.Verdicts.{Verdict, test, judged}
 use Rattle.read_declarations.specs.Declares.{line_with, MethodRow, method_entry}
 use Rattle.resolve_pass.specs.declared.Pass.{Pass}
-use Rattle.resolve_pass.specs.declared.TriedLine.{TriedLine}
 use Rattle.resolve_pass.specs.Passes.{seen_by, line_after, line_judged, judged_here, LinePut, LineTried}
 use Rattle.resolve_headers.specs.Headers.{DeclarationPut}
 use Rattle.resolve_headers.proofs.Lines.{Formed, line-is}
@@ -50,7 +49,7 @@ formed-fields (o ∷ os) (w ∷ ws) e = ap (◌∷◌ w) (formed-fields os ws (b
 
 -- b: all is known
 abbrev named : Bool → Verdict
-named b = test b Fault.Undeclared Verdict.Good
+named b = test b Fault.Undeclared (Ok tt)
 
 one : (a : Bool) → (a && true) ≡ a
 one true = refl
@@ -171,10 +170,10 @@ module _ (t w : List ℕ) (p : Pass) (r : ℕ) (k : Kind) {n : ℕ} (e : n ≡ k
 
   pub put_on :
       b ≡ true → {u : List ℕ} {q : Pass} → DeclarationPut t w p (line_with k (more (drop r t))) u q →
-      LineTried t w p (line_after t r n) u (TriedLine.On q)
+      LineTried t w p (line_after t r n) u (Ok q)
   unfolding LineTried test
   put_on f {u} {q} x = (judged-here ∙ ap named f, (subst (λ l. LinePut t w p l u q) (sym (line-is k e)) x.put, x.unframed))
 
-  pub put-bad : b ≡ false → LineTried t w p (line_after t r n) w (TriedLine.Bad Fault.Undeclared)
+  pub put-bad : b ≡ false → LineTried t w p (line_after t r n) w (Err Fault.Undeclared)
   unfolding LineTried test
   put-bad f = (judged-here ∙ ap named f, refl)

@@ -12,7 +12,7 @@ ghost use Rattle.resolve_headers.specs.Headers.{DeclarationFollows, Held, moved}
 
 use read_scopes::{Above, Names, Range};
 use read_types::Fault;
-use resolve_pass::{Pass, TriedLine};
+use resolve_pass::Pass;
 use rules::Kind;
 
 // THE COUNTS
@@ -24,11 +24,9 @@ fn moved(p: Pass, names: Names, above: Above, main: usize) -> Pass
     Pass {
         names,
         above,
-        rows: p.rows,
-        atoms: p.atoms,
         main,
         line: p.line + 1,
-        unframed: p.unframed,
+        ..p
     }
 }
 
@@ -43,16 +41,14 @@ fn with_class(a: Above) -> Above
     requires { AboveFits a }
     ensures { result ≡ above_after Class a }
 {
-    let fields = a.fields;
-    let methods = a.methods;
     Above {
         classes: a.classes + 1,
         fields: Range {
-            first: after(fields),
+            first: after(a.fields),
             count: 0,
         },
         methods: Range {
-            first: after(methods),
+            first: after(a.methods),
             count: 0,
         },
     }
@@ -63,8 +59,8 @@ fn one_more(r: Range) -> Range
     ensures { result ≡ one_more r }
 {
     Range {
-        first: r.first,
         count: r.count + 1,
+        ..r
     }
 }
 
@@ -72,12 +68,9 @@ fn with_field(a: Above) -> Above
     requires { AboveFits a }
     ensures { result ≡ above_after Field a }
 {
-    let fields = a.fields;
-    let methods = a.methods;
     Above {
-        classes: a.classes,
-        fields: one_more(fields),
-        methods,
+        fields: one_more(a.fields),
+        ..a
     }
 }
 
@@ -85,12 +78,9 @@ fn with_method(a: Above) -> Above
     requires { AboveFits a }
     ensures { result ≡ above_after Method a }
 {
-    let fields = a.fields;
-    let methods = a.methods;
     Above {
-        classes: a.classes,
-        fields,
-        methods: one_more(methods),
+        methods: one_more(a.methods),
+        ..a
     }
 }
 
@@ -98,31 +88,28 @@ fn in_method(c: Names) -> Names
     ensures { result ≡ with_block true c }
 {
     Names {
-        classes: c.classes,
-        fields: c.fields,
-        methods: c.methods,
         method: true,
         locals: 0,
         result: true,
+        ..c
     }
 }
 
 // ONE LINE: its word ends at r
 
 // `class C`: the next class, if C is a new name. Its name stands in its row.
-fn put_class(text: &[u8], work: &mut [u8], p: Pass, r: usize) -> TriedLine
+fn put_class(text: &[u8], work: &mut [u8], p: Pass, r: usize) -> Result<Pass, Fault>
     requires { PassFits text.now work.old p × (r ≤ length text.now) × FormedAfter text.now r Class × LineRoom text.now work.old p (line_after text.now r class_kind) }
     ensures { LineTried text.now work.old p (line_after text.now r class_kind) work.new result }
 {
-    let names = p.names;
     let above = p.above;
     let s = read_declarations::span_after(text, r);
     let name = read_names::name_in(text, s);
     if !read_lookups::is_new(text, work, read_names::CLASSES, above.classes, name) {
-        return TriedLine::Bad(Fault::Undeclared);
+        return Err(Fault::Undeclared);
     }
     write_rows::put_class_row(work, above.classes);
-    TriedLine::On(moved(p, names, with_class(above), p.main))
+    Ok(moved(p, p.names, with_class(above), p.main))
 }
 
 // `main`: its first row is the next.
@@ -130,24 +117,28 @@ fn put_main(p: Pass) -> Pass
     requires { p.line < most_bytes }
     ensures { result ≡ moved p p.names p.above p.rows }
 {
-    let names = p.names;
-    let above = p.above;
-    moved(p, names, above, p.rows)
+    moved(p, p.names, p.above, p.rows)
 }
 
 // Tries the line of this kind (`class` or `main`) whose word ends at r.
-pub fn put_declaration(text: &[u8], work: &mut [u8], p: Pass, kind: u8, r: usize) -> TriedLine
+pub fn put_declaration(
+    text: &[u8],
+    work: &mut [u8],
+    p: Pass,
+    kind: u8,
+    r: usize,
+) -> Result<Pass, Fault>
     requires { PassFits text.now work.old p × (r ≤ length text.now) × DeclarationFollows text.now kind r × LineRoom text.now work.old p (line_after text.now r kind) }
     ensures { LineTried text.now work.old p (line_after text.now r kind) work.new result }
 {
     match kind {
         Kind::CLASS => put_class(text, work, p, r),
-        _ => TriedLine::On(put_main(p)),
+        _ => Ok(put_main(p)),
     }
 }
 
 // `field T f`, whose word ends at r: one more field of the last class, if T is a type and f a new name.
-pub fn put_field(text: &[u8], work: &mut [u8], p: Pass, r: usize) -> TriedLine
+pub fn put_field(text: &[u8], work: &mut [u8], p: Pass, r: usize) -> Result<Pass, Fault>
     requires { PassFits text.now work.old p × (r ≤ length text.now) × FormedAfter text.now r Field × LineRoom text.now work.old p (line_after text.now r field_kind) × Held work.old p }
     ensures { LineTried text.now work.old p (line_after text.now r field_kind) work.new result }
 {
@@ -156,17 +147,17 @@ pub fn put_field(text: &[u8], work: &mut [u8], p: Pass, r: usize) -> TriedLine
     let gives = read_declarations::span_after(text, r);
     let name = read_declarations::span_after(text, gives.start + gives.len);
     if !read_lookups::may_add_field(text, work, names, above, name, gives) {
-        return TriedLine::Bad(Fault::Undeclared);
+        return Err(Fault::Undeclared);
     }
     let int = read_lookups::is_int(text, gives);
     let f = read_lookups::field_number(text, work, names, read_names::name_in(text, name));
     write_rows::put_class_field(work, above.classes - 1, f, int);
-    TriedLine::On(moved(p, names, with_field(above), p.main))
+    Ok(moved(p, names, with_field(above), p.main))
 }
 
 // `method T m U w`, whose word ends at r: the next method, from the next row on, and its block, if T and U are types and m and
 // w new names.
-pub fn put_method(text: &[u8], work: &mut [u8], p: Pass, r: usize) -> TriedLine
+pub fn put_method(text: &[u8], work: &mut [u8], p: Pass, r: usize) -> Result<Pass, Fault>
     requires { PassFits text.now work.old p × (r ≤ length text.now) × FormedAfter text.now r Method × LineRoom text.now work.old p (line_after text.now r method_kind) × Held work.old p }
     ensures { LineTried text.now work.old p (line_after text.now r method_kind) work.new result }
 {
@@ -178,16 +169,16 @@ pub fn put_method(text: &[u8], work: &mut [u8], p: Pass, r: usize) -> TriedLine
     let takes = m.takes;
     let parameter = read_declarations::span_after(text, takes.start + takes.len);
     if !read_lookups::may_add_method(text, work, names, above, m, parameter) {
-        return TriedLine::Bad(Fault::Undeclared);
+        return Err(Fault::Undeclared);
     }
     let class = read_names::name_at(text, work, owner);
     write_rows::put_method_row(work, after(methods), p.rows);
     read_scopes::put_block(text, work, class, m, parameter);
-    TriedLine::On(moved(p, in_method(names), with_method(above), p.main))
+    Ok(moved(p, in_method(names), with_method(above), p.main))
 }
 
 // `var T x`, whose word ends at r: one more local, if T is a type and x a new name.
-pub fn put_var(text: &[u8], work: &mut [u8], p: Pass, r: usize) -> TriedLine
+pub fn put_var(text: &[u8], work: &mut [u8], p: Pass, r: usize) -> Result<Pass, Fault>
     requires { PassFits text.now work.old p × (r ≤ length text.now) × FormedAfter text.now r Var × LineRoom text.now work.old p (line_after text.now r var_kind) }
     ensures { LineTried text.now work.old p (line_after text.now r var_kind) work.new result }
 {
@@ -196,8 +187,8 @@ pub fn put_var(text: &[u8], work: &mut [u8], p: Pass, r: usize) -> TriedLine
     let gives = read_declarations::span_after(text, r);
     let name = read_declarations::span_after(text, gives.start + gives.len);
     if !read_lookups::may_declare(text, work, names, name, gives) {
-        return TriedLine::Bad(Fault::Undeclared);
+        return Err(Fault::Undeclared);
     }
     let grown = read_scopes::put_local(text, work, names, name, gives);
-    TriedLine::On(moved(p, grown, above, p.main))
+    Ok(moved(p, grown, above, p.main))
 }

@@ -2,8 +2,9 @@
 use mathlib.Core.Path.{◌≡◌, refl}
 use mathlib.Core.Bool.{Bool, true, false, cond, ◌||◌}
 use mathlib.Core.List.{List, [], ◌∷◌}
-use Prim.Native.Nat.{ℕ, zero, suc}
-use lib.Dec.{T, eqb, eqb-suc-zero}
+use Prim.Native.Nat.{ℕ, suc}
+use lib.Dec.{T}
+use Rattle.std.proofs.Common.{Option, Some, None}
 use Rattle.rules.specs.Base.{all}
 use Rattle.rules.specs.Answers.{Verdict, accepted, refused, unframed}
 use Rattle.rules.specs.Syntax.{Stmt, simple, return, if, else, join, loop, again, end}
@@ -52,29 +53,33 @@ framed-other Γ vs k l e = second (is_framed k) (framed_item (item_of Γ vs k l)
     second false true e h = refl
     second false false e h = absurd h
 
--- ALL LINES: u is the first of n lines that number 10 refuses, or 0, and the items are those of the lines to come
+-- ALL LINES: u is the first of n lines that number 10 refuses, if any, and the items are those of the lines to come
 
-unfoldable pub framed_after : ℕ → ℕ → List Item → Verdict (Unit {0})
-framed_after u n items = cond (eqb u 0) (check_framed items n) (refused unframed u)
+unfoldable pub framed_after : Option ℕ → ℕ → List Item → Verdict (Unit {0})
+framed_after None n items = check_framed items n
+framed_after (Some u) n items = refused unframed u
 
-pub framed-first : (items : List Item) → framed_after 0 0 items ≡ check_framed items 0
+pub framed-first : (items : List Item) → framed_after None 0 items ≡ check_framed items 0
 unfolding framed_after
 framed-first items = refl
 
 -- the verdict stays from line to line
-pub framed-on : (u n : ℕ) (a : Item) (items : List Item) → framed_after (unframed_after u n a) (suc n) items ≡ framed_after u n (a ∷ items)
+pub framed-on : (u : Option ℕ) (n : ℕ) (a : Item) (items : List Item) → framed_after (unframed_after u n a) (suc n) items ≡ framed_after u n (a ∷ items)
 unfolding framed_after unframed_after check_framed
-framed-on zero n a items = go (framed_item a)
+framed-on None n a items = go (framed_item a)
   where
     go :
         (b : Bool) →
-        cond (eqb (cond b 0 (suc n)) 0) (check_framed items (suc n)) (refused unframed (cond b 0 (suc n)))
-        ≡ cond b (check_framed items (suc n)) (refused unframed (suc n))
+        framed_after (cond b None (Some (suc n))) (suc n) items ≡ cond b (check_framed items (suc n)) (refused unframed (suc n))
     go true = refl
-    go false = rw (eqb-suc-zero n)
-framed-on (suc u) n a items = rw (eqb-suc-zero u, eqb-suc-zero u)
+    go false = refl
+framed-on (Some u) n a items = refl
 
 -- after the last
-pub framed-last : (u n : ℕ) → framed_after u n [] ≡ cond (eqb u 0) (accepted tt) (refused unframed u)
+pub framed-last : (n : ℕ) → framed_after None n [] ≡ accepted tt
 unfolding framed_after check_framed
-framed-last u n = refl
+framed-last n = refl
+
+pub unframed-last : (u n : ℕ) → framed_after (Some u) n [] ≡ refused unframed u
+unfolding framed_after
+unframed-last u n = refl

@@ -1,5 +1,5 @@
 -- Pass 2, line by line: what the tables mean so far, what the next line may ask, and what it leaves.
-use Rattle.std.specs.Prelude.{◌≡◌, Bool, true, false, not, cond, ◌&&◌, ◌||◌, List, [], ◌∷◌, ◌++◌, map, ℕ, suc, pred, ◌+◌, ◌-◌, ◌≤◌, ◌<◌, eqb, length, get_or, drop}
+use Rattle.std.specs.Prelude.{Option, Some, None, Result, Ok, Err, ◌≡◌, Bool, true, false, not, cond, ◌&&◌, ◌||◌, List, [], ◌∷◌, ◌++◌, map, ℕ, suc, pred, ◌+◌, ◌-◌, ◌≤◌, ◌<◌, length, get_or, drop}
 use Rattle.rules.specs.Limits.{work_bytes, most_bytes, most_fields, most_locals, most_statements}
 use Rattle.rules.specs.Syntax.{Field, Formula, Stmt, cmp, simple, return, if, else, join, loop, again, end}
 use Rattle.rules.specs.Grammar.{Kind, Line, statement, is_kind, is_statement, kind_number}
@@ -20,15 +20,13 @@ use Rattle.read_scopes.specs.declared.Range.{Range}
 use Rattle.read_names.specs.Rows.{entry_at, classes_first, fields_first, methods_first}
 use Rattle.read_scopes.specs.Meanings.{NamesFit, AboveFits, declarations_in, variables_in, scope_in, more_locals}
 use Rattle.read_types.specs.declared.Fault.{Fault}
-use Rattle.read_types.specs.declared.Verdict.{Verdict}
-use Rattle.read_types.specs.Verdicts.{judged}
+use Rattle.read_types.specs.Verdicts.{Verdict, judged}
 use Rattle.read_declarations.specs.Declares.{line_with}
 use Rattle.rules.specs.Syntax.{Program}
 use Rattle.rules.specs.Reading.{with_item}
 use Rattle.tables.specs.Tables.{Declared}
 use Rattle.write_rows.specs.Holds.{Holds}
 use Rattle.resolve_pass.specs.declared.Pass.{Pass}
-use Rattle.resolve_pass.specs.declared.TriedLine.{TriedLine}
 
 -- COUNTS
 
@@ -101,7 +99,7 @@ first_pass r =
       atoms = 0;
       main = 0;
       line = 0;
-      unframed = 0;
+      unframed = None;
     }
 
 -- number 10 is about these
@@ -219,13 +217,18 @@ pub record LinePut (t w : List ℕ) (p : Pass) (l : Line) (w' : List ℕ) (q : P
 
 -- a line that is refused
 abbrev pub BadLine : (t w : List ℕ) (p : Pass) (l : Line) (w' : List ℕ) → Fault → Type 0
-BadLine t w p l w' f = (judged_here t w p l ≡ Verdict.Bad f) × (length w' ≡ length w)
+BadLine t w p l w' f = (judged_here t w p l ≡ Err f) × (length w' ≡ length w)
 
 -- a line is put in the tables just if it is good
-unfoldable pub LineTried : (t w : List ℕ) (p : Pass) (l : Line) (w' : List ℕ) → TriedLine → Type 0
-LineTried t w p l w' (TriedLine.On q) = (judged_here t w p l ≡ Verdict.Good) × (LinePut t w p l w' q × (q.unframed ≡ p.unframed))
-LineTried t w p l w' (TriedLine.Bad f) = BadLine t w p l w' f
+unfoldable pub LineTried : (t w : List ℕ) (p : Pass) (l : Line) (w' : List ℕ) → Result Pass Fault → Type 0
+LineTried t w p l w' (Ok q) = (judged_here t w p l ≡ Ok tt) × (LinePut t w p l w' q × (q.unframed ≡ p.unframed))
+LineTried t w p l w' (Err f) = BadLine t w p l w' f
 
--- the first line that number 10 refuses, or 0, after one line more
-unfoldable pub unframed_after : ℕ → ℕ → Item → ℕ
-unframed_after u n a = cond (eqb u 0) (cond (framed_item a) 0 (suc n)) u
+-- the first of two, or the second if there is no first
+abbrev pub first_of : Option ℕ → Option ℕ → Option ℕ
+first_of (Some u) v = Some u
+first_of None v = v
+
+-- the first line that number 10 refuses, if any, after one line more
+unfoldable pub unframed_after : Option ℕ → ℕ → Item → Option ℕ
+unframed_after u n a = first_of u (cond (framed_item a) None (Some (suc n)))

@@ -2,10 +2,9 @@
 #![tactic(auto)]
 
 use read_scopes::{Above, Names};
-use read_types::Fault;
 
 // How far pass 2 is: what a line may name, what the lines above declare, the rows and atoms that are written, main's first row, how
-// many lines are above, and the first of them that number 10 refuses, or 0.
+// many lines are above, and the first of them that number 10 refuses, if any.
 #[derive(Clone, Copy)]
 pub struct Pass {
     pub names: Names,
@@ -14,12 +13,5 @@ pub struct Pass {
     pub atoms: usize,
     pub main: usize,
     pub line: usize,
-    pub unframed: usize,
-}
-
-// What trying a line gives: it is in the tables, or it is refused.
-#[derive(Clone, Copy)]
-pub enum TriedLine {
-    On(Pass),
-    Bad(Fault),
+    pub unframed: Option<usize>,
 }

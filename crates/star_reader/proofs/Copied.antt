@@ -6,6 +6,7 @@ use Prim.Native.Nat.{ℕ, zero, suc, ◌+◌, ◌≤◌, ◌<◌}
 use native.Mathlib.Omega.{arith}
 use lib.ListN.{length, get_or, take, drop, length-map}
 use lib.Seq.{length-take-le}
+use Rattle.std.proofs.Common.{Option, Some, None, Result, Ok, Err, slice_get}
 use borrow.Author.Tests.{le-ltb, lt-ltb}
 use Rattle.rules.specs.Base.{Name}
 use Rattle.rules.specs.Limits.{most_bytes}
@@ -26,8 +27,7 @@ use Rattle.filling.proofs.Search.{star-has-method}
 use Rattle.tables.specs.Decode.{program_in, method_at, method_count}
 use Rattle.tables.proofs.Runs.{run_length}
 use Rattle.read_declarations.specs.Texts.{lines_of}
-use Rattle.reader.specs.declared.Refusal as Reasons
-use Rattle.reader.specs.declared.Reading.{Reading}
+use Rattle.reader.specs.declared.RefusedLine.{RefusedLine}
 use Rattle.reader.specs.Readings.{refusal_of, Tabled, ReadingIs}
 use Rattle.unstarring.specs.declared.Stars.{Stars}
 use Rattle.unstarring.specs.Copies.{Unstarred}
@@ -51,22 +51,19 @@ stars-within n (l ∷ ls) i h = go (is_starred l) i (stars-within (suc n) ls) h
     go true (suc i) f h = let (x, y) = f i (omega arith) in (omega arith, omega arith)
     go false i f h = let (x, y) = f i h in (omega arith, omega arith)
 
-abbrev Within : List ℕ → Type 0
-Within s = (i : ℕ) → i < length s → 0 < get_or s i 0
+none_of : (s : List ℕ) → slice_get s 0 ≡ None → s ≡ []
+none_of [] e = refl
+none_of (a ∷ s) e = let z : ◌≡◌ {A = Option ℕ} (Some a) None = e in cc
 
-none_of : (s : List ℕ) → Within s → get_or s 0 0 ≡ 0 → s ≡ []
-none_of [] f e = refl
-none_of (a ∷ s) f e = absurd (omega (arith, f 0 (omega arith), e))
+one_of : (s : List ℕ) (a : ℕ) → slice_get s 0 ≡ Some a → slice_get s 1 ≡ None → s ≡ a ∷ []
+one_of [] a e g = let z : ◌≡◌ {A = Option ℕ} None (Some a) = e in cc
+one_of (b ∷ []) a e g = let z : ◌≡◌ {A = Option ℕ} (Some b) (Some a) = e in cc
+one_of (b ∷ d ∷ s) a e g = let z : ◌≡◌ {A = Option ℕ} (Some d) None = g in cc
 
-one_of : (s : List ℕ) (a : ℕ) → Within s → get_or s 0 0 ≡ a → 0 < a → get_or s 1 0 ≡ 0 → s ≡ a ∷ []
-one_of [] a f e p g = absurd (omega arith)
-one_of (b ∷ []) a f e p g = ap (λ c. c ∷ []) e
-one_of (b ∷ d ∷ s) a f e p g = absurd (omega (arith, f 1 (omega arith), g))
-
-two-of : (s : List ℕ) (a : ℕ) → get_or s 1 0 ≡ a → 0 < a → s ≡ get_or s 0 0 ∷ a ∷ drop 2 s
-two-of [] a e p = absurd (omega arith)
-two-of (b ∷ []) a e p = absurd (omega arith)
-two-of (b ∷ d ∷ s) a e p = ap (λ c. b ∷ c ∷ s) e
+two-of : (s : List ℕ) (a : ℕ) → slice_get s 1 ≡ Some a → s ≡ get_or s 0 0 ∷ a ∷ drop 2 s
+two-of [] a e = let z : ◌≡◌ {A = Option ℕ} None (Some a) = e in cc
+two-of (b ∷ []) a e = let z : ◌≡◌ {A = Option ℕ} None (Some a) = e in cc
+two-of (b ∷ d ∷ s) a e = let z : ◌≡◌ {A = Option ℕ} (Some d) (Some a) = e in let y : d ≡ a = cc in ap (λ c. b ∷ c ∷ s) y
 
 -- THE TEXT
 
@@ -74,7 +71,7 @@ pub too_long : (t : List ℕ) → most_bytes < length t → fill_set t ≡ refus
 unfolding fill_set
 too_long t h = rw (lt-ltb most_bytes (length t) h)
 
-module _ {t c : List ℕ} {f g : ℕ} (x : CopyOf t c f g) where
+module _ {t c : List ℕ} {f g : Option ℕ} (x : CopyOf t c f g) where
   lines_are : lines c ≡ with_atoms [] (lines t)
   lines_are = ap lines x.copied ∙ lines-joined t
 
@@ -108,7 +105,7 @@ module _ {t c : List ℕ} {f g : ℕ} (x : CopyOf t c f g) where
       go (accepted ls) e = inner ls (resolve_lines (declarations ls) ls 0 first_scope) e
       go (refused q m) e = cc
 
-  module _ {w : List ℕ} {u : ℕ} (y : Tabled c w u) where
+  module _ {w : List ℕ} {u : Option ℕ} (y : Tabled c w u) where
     scanned : scan_lines (with_atoms [] (lines t)) 0 first_place ≡ accepted (lines_of c)
     scanned = subst (λ ls. scan_lines ls 0 first_place ≡ accepted (lines_of c)) lines_are y.noted.taken
 
@@ -116,40 +113,37 @@ module _ {t c : List ℕ} {f g : ℕ} (x : CopyOf t c f g) where
     unfolding fill_lines then
     by-stars s e = by_lines ∙ rw (scanned, y.resolved, e)
 
-    stars : Within (stars_from 0 (lines t))
-    stars i h = (stars-within 0 (lines t) i h).0
-
-    pub none-there : f ≡ 0 → fill_set t ≡ refused not_one_star 0
+    pub none-there : f ≡ None → fill_set t ≡ refused not_one_star 0
     unfolding fill_stars
-    none-there e = by-stars [] (none_of _ stars (sym x.first ∙ e))
+    none-there e = by-stars [] (none_of _ (sym x.first ∙ e))
 
-    pub second-there : (g ≡ 0 → ⊥) → fill_set t ≡ refused not_one_star g
+    pub second-there : {l : ℕ} → g ≡ Some l → fill_set t ≡ refused not_one_star l
     unfolding fill_stars
-    second-there h = by-stars _ (two-of _ g (sym x.second) (omega (arith, h)))
+    second-there {l} e = by-stars _ (two-of _ l (sym x.second ∙ e))
 
-    module _ (p : f ≡ 0 → ⊥) (q : g ≡ 0) where
-      one : OneStar (lines t) (lines_of c) y.items f
+    module _ {m : ℕ} (p : f ≡ Some m) (q : g ≡ None) where
+      one : OneStar (lines t) (lines_of c) y.items m
       one =
           record {
             scanned = scanned;
             read = y.resolved;
-            star = one_of _ f stars (sym x.first) (omega (arith, p)) (sym x.second ∙ q);
+            star = one_of _ m (sym x.first ∙ p) (sym x.second ∙ q);
           }
 
-      method-there : method_of_line (lines_of c) f < method_count w
+      method-there : method_of_line (lines_of c) m < method_count w
       unfolding program_in
       method-there =
           let e : method_count w ≡ length (program y.items).methods =
           sym (run_length (method_at w) 0 (method_count w)) ∙ ap (λ (P : Program). length P.methods) y.program in
           omega (arith, e, star-has-method _ _ _ _ one)
 
-      line-there : f ≤ length (lines_of c)
+      line-there : m ≤ length (lines_of c)
       line-there =
           let e = OneStar.star one in
           let (_, h) = stars-within 0 (lines t) 0 (rw e (omega arith)) in
-          omega (arith, h, x.first, same_count)
+          omega (arith, h, ap (λ (s : List ℕ). get_or s 0 0) e, same_count)
 
-      pub line-here : LineHere c w f
+      pub line-here : LineHere c w m
       line-here =
           let T = y.tables in
           record {
@@ -157,7 +151,7 @@ module _ {t c : List ℕ} {f g : ℕ} (x : CopyOf t c f g) where
             high = omega (arith, line-there, all_lines y.noted.taken y.noted.table);
           }
 
-      pub star-read : {s : Star} → StarAt c f u s → StarRead t w s
+      pub star-read : {s : Star} → StarAt c m u s → StarRead t w s
       star-read {s} z =
           record {
             fits = x.fits;
@@ -175,12 +169,12 @@ module _ {t c : List ℕ} {f g : ℕ} (x : CopyOf t c f g) where
           }
 
 -- READING BY ITS CASES
-module _ (c w : List ℕ) {r : Reading} (x : ReadingIs c w r) where
-  pub copy-tabled : {u : ℕ} → r ≡ Reading.Read u → Tabled c w u
+module _ (c w : List ℕ) {r : Result (Option ℕ) RefusedLine} (x : ReadingIs c w r) where
+  pub copy-tabled : {u : Option ℕ} → r ≡ Ok u → Tabled c w u
   unfolding ReadingIs
   copy-tabled e = subst (ReadingIs c w) e x
 
-  pub copy-why : {why : Reasons.Refusal} {l : ℕ} → r ≡ Reading.Refused why l → read_text c ≡ refused (refusal_of why) l
+  pub copy-why : {e : RefusedLine} → r ≡ Err e → read_text c ≡ refused (refusal_of e.why) e.line
   unfolding ReadingIs
   copy-why e = subst (ReadingIs c w) e x
 

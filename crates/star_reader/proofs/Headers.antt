@@ -22,8 +22,7 @@ use Rattle.read_bytes.specs.declared.Set.TheVariants.{LineEnd}
 use Rattle.read_scan.specs.Table.{LineTable, word_in, line_end, start_of}
 use Rattle.read_scan.proofs.Table.{found-end}
 use Rattle.read_names.specs.Rows.{entry_at, name_in, owner_at, takes_at, methods_first}
-use Rattle.read_scopes.specs.declared.Names.{Names}
-use Rattle.read_scopes.specs.Meanings.{NamesFit, as_method, declarations_in}
+use Rattle.read_scopes.specs.Meanings.{as_method, declarations_in}
 use Rattle.read_declarations.specs.Texts.{lines_of, TextTaken, line_at}
 use Rattle.read_declarations.proofs.Walks.{Walking, walking-first, walking-done, walking-formed, walking-lines, walking_on}
 use Rattle.read_declarations.proofs.Adds.{word-kind}
@@ -126,10 +125,6 @@ module _ {c w : List ℕ} {m : ℕ} (x : MethodHere c w m) where
   pub class-is : (y : List ℕ) → class_number (declarations_in c w (class_names w)) y ≡ class_number (declarations (lines_of c)) y
   unfolding class_number declarations_in
   class-is y = rw x.noted.classes
-
--- the count of classes fits
-pub names-fit : {c w : List ℕ} {m : ℕ} → MethodHere c w m → {n : Names} → n ≡ class_names w → NamesFit n
-names-fit x e = rw e (record { classes = x.classes; fields = omega arith; methods = omega arith; locals = omega arith })
 
 -- COUNTING, one line more: n headers are above line i
 

@@ -1,5 +1,5 @@
 -- A text whose requires line is to be filled in, read with its star as a formula without atoms: what the answers mean.
-use Rattle.std.specs.Prelude.{◌≡◌, false, cond, List, [], ℕ, zero, suc, ◌+◌, ◌≤◌, ◌<◌, eqb, length, get_or}
+use Rattle.std.specs.Prelude.{Option, Result, Ok, Err, slice_get, ◌≡◌, false, cond, List, [], ℕ, zero, suc, ◌+◌, ◌≤◌, ◌<◌, eqb, length}
 use Rattle.rules.specs.Limits.{work_bytes, most_bytes, most_classes, most_methods, most_filled}
 use Rattle.rules.specs.Answers.{refused, not_one_star}
 use Rattle.rules.specs.Text.{lines}
@@ -20,7 +20,7 @@ use Rattle.read_scopes.specs.declared.Names.{Names}
 use Rattle.read_declarations.specs.Texts.{lines_of}
 use Rattle.reader.specs.Readings.{refusal_of, framed_verdict, Noted}
 use Rattle.star_reader.specs.declared.Star.{Star}
-use Rattle.star_reader.specs.declared.Starred.{Starred}
+use Rattle.star_reader.specs.declared.NoStar.{NoStar}
 
 -- THE STAR'S METHOD: c is the text without its star, w the work area with its tables
 
@@ -47,23 +47,23 @@ pub record LineHere (c w : List ℕ) (l : ℕ) : Type 0 where
   pub high : l ≤ method.noted.lines
 
 -- s tells its method, with the classes of `this` and of w
-pub record StarAt (c : List ℕ) (l u : ℕ) (s : Star) : Type 0 where
+pub record StarAt (c : List ℕ) (l : ℕ) (u : Option ℕ) (s : Star) : Type 0 where
   pub line : s.line ≡ l
   pub unframed : s.unframed ≡ u
   pub method : s.method ≡ method_of_line (lines_of c) l
   pub class : s.class ≡ (header_of (declarations (lines_of c)) s.method).owner
   pub parameter : s.parameter ≡ class_number (declarations (lines_of c)) (header_of (declarations (lines_of c)) s.method).parameter_type
 
--- THE COPY: c is the text t without its stars, and f and g are the lines of the first two of them, or 0
+-- THE COPY: c is the text t without its stars, and f and g are the lines of the first two of them, if it has them
 
-pub record CopyOf (t c : List ℕ) (f g : ℕ) : Type 0 where
+pub record CopyOf (t c : List ℕ) (f g : Option ℕ) : Type 0 where
   pub fits : length t ≤ most_bytes
   pub copied : c ≡ joined (with_atoms [] (lines t))
   pub short : length c ≤ length t
-  pub first : f ≡ get_or (stars_from 0 (lines t)) 0 0
-  pub second : g ≡ get_or (stars_from 0 (lines t)) 1 0
+  pub first : f ≡ slice_get (stars_from 0 (lines t)) 0
+  pub second : g ≡ slice_get (stars_from 0 (lines t)) 1
 
-pub record HasText (c : List ℕ) (f g : ℕ) : Type 0 where
+pub record HasText (c : List ℕ) (f g : Option ℕ) : Type 0 where
   pub text : List ℕ
   pub copy : CopyOf text c f g
 
@@ -84,12 +84,12 @@ pub record StarRead (t w : List ℕ) (s : Star) : Type 0 where
   pub parameter : s.parameter ≡ class_number (declarations ks) (header_of (declarations ks) s.method).parameter_type
   pub within : s.method < method_count w
 
-unfoldable pub StarredIs : (t w : List ℕ) → Starred → Type 0
-StarredIs t w (Starred.Refused r l) = fill_set t ≡ refused (refusal_of r) l
-StarredIs t w Starred.Missing = fill_set t ≡ refused not_one_star 0
-StarredIs t w (Starred.Second l) = fill_set t ≡ refused not_one_star l
-StarredIs t w (Starred.One s) = StarRead t w s
+unfoldable pub StarredIs : (t w : List ℕ) → Result Star NoStar → Type 0
+StarredIs t w (Ok s) = StarRead t w s
+StarredIs t w (Err (NoStar.Refused e)) = fill_set t ≡ refused (refusal_of e.why) e.line
+StarredIs t w (Err NoStar.Missing) = fill_set t ≡ refused not_one_star 0
+StarredIs t w (Err (NoStar.Second l)) = fill_set t ≡ refused not_one_star l
 
 -- of each text that c is the copy of
-abbrev pub CopyIs : (c w : List ℕ) (f g : ℕ) → Starred → Type 0
+abbrev pub CopyIs : (c w : List ℕ) (f g : Option ℕ) → Result Star NoStar → Type 0
 CopyIs c w f g r = (t : List ℕ) → CopyOf t c f g → StarredIs t w r

@@ -9,31 +9,39 @@ ghost use Rattle.filling.specs.Sets.{header_of};
 ghost use Rattle.read_scan.specs.Table.{most_lines};
 ghost use Rattle.read_declarations.specs.Texts.{lines_of};
 ghost use Rattle.reader.specs.Readings.{Tabled};
+ghost use Rattle.star_reader.specs.declared.NoStar.TheVariants.{Refused};
 ghost use Rattle.star_reader.specs.StarRead.{headers_in, class_names, MethodHere, LineHere, StarAt, HasText, CopyIs, StarredIs};
 
 use read_scopes::Names;
-use reader::{Reading, Refusal};
+use reader::{Refusal, RefusedLine};
 use rules::{Kind, Machine};
 use tables::HeaderAt;
 
-// The star's line, and the first line that number 10 refuses, or 0; the star's method, its class, and the class of its parameter, or the
-// count of classes for an int.
+// The star's line, and the first line that number 10 refuses, if any; the star's method, its class, and the class of its parameter.
+// No Option for an int's class: the definition `class_number` of the rules, which the contract cites, is the count of classes then.
 #[derive(Clone, Copy)]
 pub struct Star {
     pub line: usize,
-    pub unframed: usize,
+    pub unframed: Option<usize>,
     pub method: usize,
     pub class: usize,
     pub parameter: usize,
 }
 
-// Why a text is refused, and at which line; that it has no star, or a second one, at this line; or its star.
+// Why a text has no star to fill in: it is refused, it has none, or it has a second one, at this line.
 #[derive(Clone, Copy)]
-pub enum Starred {
-    Refused(Refusal, usize),
+pub enum NoStar {
+    Refused(RefusedLine),
     Missing,
     Second(usize),
-    One(Star),
+}
+
+impl From<RefusedLine> for NoStar {
+    ghost from_gives = { λ e r. r ≡ Refused e };
+
+    fn from(e: RefusedLine) -> NoStar {
+        NoStar::Refused(e)
+    }
 }
 
 // THE STAR'S METHOD
@@ -45,14 +53,12 @@ fn last_method(work: &[u8], line: usize) -> usize
 {
     let mut last = 0;
     let mut next = 0;
-    let mut i = 0;
-    while i < line {
+    for i in 0..line {
         let w = read_scan::line_word(work, i);
         if w.kind == Kind::METHOD {
             last = next;
             next += 1;
         }
-        i += 1;
     }
     last
 }
@@ -82,7 +88,7 @@ fn parameter_class(text: &[u8], work: &[u8], method: usize) -> usize
     read_lookups::class_number(text, work, c, read_names::name_in(text, takes))
 }
 
-fn star_at(text: &[u8], work: &[u8], line: usize, unframed: usize) -> Star
+fn star_at(text: &[u8], work: &[u8], line: usize, unframed: Option<usize>) -> Star
     requires { LineHere text.now work.now line }
     ensures { StarAt text.now line unframed result }
 {
@@ -101,41 +107,51 @@ fn star_at(text: &[u8], work: &[u8], line: usize, unframed: usize) -> Star
 // THE TEXT
 
 // By its copy, which is read.
-fn read_star(text: &[u8], work: &[u8], first: usize, second: usize, unframed: usize) -> Starred
+fn read_star(
+    text: &[u8],
+    work: &[u8],
+    first: Option<usize>,
+    second: Option<usize>,
+    unframed: Option<usize>,
+) -> Result<Star, NoStar>
     requires { HasText text.now first second × Tabled text.now work.now unframed }
     ensures { CopyIs text.now work.now first second result }
 {
-    if first == 0 {
-        return Starred::Missing;
+    let Some(line) = first else {
+        return Err(NoStar::Missing);
+    };
+    if let Some(next) = second {
+        return Err(NoStar::Second(next));
     }
-    if second != 0 {
-        return Starred::Second(second);
-    }
-    Starred::One(star_at(text, work, first, unframed))
+    Ok(star_at(text, work, line, unframed))
 }
 
 // By its copy, and the lines of the first two stars.
-fn read_copy(text: &[u8], work: &mut [u8], first: usize, second: usize) -> Starred
+fn read_copy(
+    text: &[u8],
+    work: &mut [u8],
+    first: Option<usize>,
+    second: Option<usize>,
+) -> Result<Star, NoStar>
     requires { HasText text.now first second × (length work.old ≡ work_bytes) }
     ensures { CopyIs text.now work.new first second result × (length work.new ≡ work_bytes) }
 {
-    let r = reader::read(text, work);
-    match r {
-        Reading::Refused(why, line) => Starred::Refused(why, line),
-        Reading::Read(unframed) => read_star(text, work, first, second, unframed),
-    }
+    let unframed = reader::read(text, work)?;
+    read_star(text, work, first, second, unframed)
 }
 
 // The text, which leaves its tables in the work area.
-pub fn read(text: &[u8], work: &mut [u8]) -> Starred
+pub fn read(text: &[u8], work: &mut [u8]) -> Result<Star, NoStar>
     requires { length work.old ≡ work_bytes }
     ensures { StarredIs text.now work.new result × (length work.new ≡ work_bytes) }
 {
     if Machine::TEXT_BYTES < text.len() {
-        return Starred::Refused(Refusal::TextTooLong, 0);
+        return Err(NoStar::Refused(RefusedLine {
+            why: Refusal::TextTooLong,
+            line: 0,
+        }));
     }
     let mut copy = [0u8; Machine::TEXT_BYTES];
     let s = unstarring::unstar(text, &mut copy);
-    let len = s.len;
-    read_copy(&copy[..len], work, s.first, s.second)
+    read_copy(&copy[..s.len], work, s.first, s.second)
 }

@@ -10,7 +10,8 @@ ghost use Rattle.write_rows.specs.Puts.{put_header};
 use rules::{Kind, Machine};
 use tables::{Bytes, Layout, RowAt, kind_at, put_half};
 
-// The rows of the open branches and loops: how many, and their numbers as bytes, the innermost lowest.
+// The rows of the open branches and loops: how many, and their numbers as bytes, the innermost lowest. Not an array with a length: as one
+// number it is passed and pushed to without an index.
 #[derive(Clone, Copy)]
 pub struct Open {
     pub depth: usize,
@@ -118,12 +119,10 @@ pub fn set_targets(work: &mut [u8], n: usize)
     ensures { work.new ≡ targets_from work.old 0 n [] }
 {
     let mut o = Open { depth: 0, rows: 0 };
-    let mut i = 0;
-    while i < n {
+    for i in 0..n {
         let k = kind_at(work, i);
         work_after(work, k, i, o);
         o = open_after(k, i, o);
-        i += 1;
     }
 }
 

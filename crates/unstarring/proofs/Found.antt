@@ -5,8 +5,10 @@ use mathlib.Core.List.{List, [], ◌∷◌, ◌++◌, append-nil}
 use Prim.Native.Nat.{ℕ, suc, ◌+◌, ◌-◌, ◌≤◌}
 use native.Mathlib.Omega.{arith}
 use native.Mathlib.Numerals.{add-one}
-use lib.Dec.{eqb, eqb-suc-zero}
-use lib.ListN.{length, get_or, take, drop, drop_of_length-le, length-drop}
+use Rattle.std.proofs.Common.{Option, Some, None}
+use Rattle.std.specs.Prelude.{slice_get}
+use Rattle.std.specs.Option.{option_or}
+use lib.ListN.{length, take, drop, drop_of_length-le, length-drop}
 use lib.Seq.{length-take-le}
 use Rattle.rules.specs.Base.{Name}
 use Rattle.rules.specs.Limits.{most_bytes}
@@ -14,22 +16,20 @@ use Rattle.rules.specs.Text.{lines}
 use Rattle.rules.specs.Fill.{is_starred, stars_from, with_atoms}
 use Rattle.filling.specs.Claims.{joined}
 use Rattle.unstarring.specs.declared.Stars.{Stars}
-use Rattle.unstarring.specs.Copies.{LineTo, with_star, without_star, LineCopied, Unstarred}
+use Rattle.unstarring.specs.Copies.{LineTo, second_at, with_star, without_star, LineCopied, Unstarred}
 use Rattle.unstarring.proofs.Lines.{copied_on}
 
--- f and s are the first two of the stars S, of which those of R are to come, or 0
-pub data Found (S R : List ℕ) : ℕ → ℕ → Type 0 where
-  none : S ≡ R → Found S R 0 0
-  one : {f : ℕ} → S ≡ suc f ∷ R → Found S R (suc f) 0
-  two : {f s : ℕ} → get_or S 0 0 ≡ suc f → get_or S 1 0 ≡ suc s → Found S R (suc f) (suc s)
+-- f and s are the first two of the stars S, of which those of R are to come
+pub data Found (S R : List ℕ) : Option ℕ → Option ℕ → Type 0 where
+  none : S ≡ R → Found S R None None
+  one : {f : ℕ} → S ≡ f ∷ R → Found S R (Some f) None
+  two : {f s : ℕ} → slice_get S 0 ≡ Some f → slice_get S 1 ≡ Some s → Found S R (Some f) (Some s)
 
 -- with a star at line n more
-found-star :
-    {S R : List ℕ} (n f s : ℕ) → Found S (suc n ∷ R) f s →
-    Found S R (cond (eqb f 0) (suc n) f) (cond (eqb f 0) s (cond (eqb s 0) (suc n) s))
+found-star : {S R : List ℕ} (n : ℕ) (f s : Option ℕ) → Found S (n ∷ R) f s → Found S R (option_or f (Some n)) (second_at f s n)
 found-star n f s (none e) = one e
-found-star n f s (one {f = g} e) = rw (eqb-suc-zero g) (two (ap (λ l. get_or l 0 0) e) (ap (λ l. get_or l 1 0) e))
-found-star n f s (two {f = g} {s = h} e i) = rw (eqb-suc-zero g, eqb-suc-zero h) (two e i)
+found-star n f s (one e) = two (ap (λ l. slice_get l 0) e) (ap (λ l. slice_get l 1) e)
+found-star n f s (two e i) = two e i
 
 -- after a line
 pub found-on :
@@ -43,13 +43,13 @@ found-on {S} n ls ms l s r len e i x =
     go :
         (b : Bool) → Found S (cond b (suc n ∷ stars_from (suc n) ms) (stars_from (suc n) ms)) s.first s.second →
         Found S (stars_from (suc n) ms) (cond b (with_star s (suc n) len) (without_star s len)).first (cond b (with_star s (suc n) len) (without_star s len)).second
-    go true y = found-star n s.first s.second y
+    go true y = found-star (suc n) s.first s.second y
     go false y = y
 
 -- where no star is to come
-pub found_all : {S : List ℕ} {f s : ℕ} → Found S [] f s → (f ≡ get_or S 0 0) × (s ≡ get_or S 1 0)
-found_all (none e) = (ap (λ l. get_or l 0 0) (sym e), ap (λ l. get_or l 1 0) (sym e))
-found_all (one e) = (ap (λ l. get_or l 0 0) (sym e), ap (λ l. get_or l 1 0) (sym e))
+pub found_all : {S : List ℕ} {f s : Option ℕ} → Found S [] f s → (f ≡ slice_get S 0) × (s ≡ slice_get S 1)
+found_all (none e) = (ap (λ l. slice_get l 0) (sym e), ap (λ l. slice_get l 1) (sym e))
+found_all (one e) = (ap (λ l. slice_get l 0) (sym e), ap (λ l. slice_get l 1) (sym e))
 found_all (two e i) = (sym e, sym i)
 
 -- THE COPY, LINE BY LINE: n lines of t are above the place `at`
@@ -62,7 +62,7 @@ pub record Copying (t c : List ℕ) (s : Stars) (at n : ℕ) : Type 0 where
   pub high : at ≤ length t
   pub size : length c ≡ most_bytes
 
-pub copying-first : (t c : List ℕ) → length c ≡ most_bytes → Copying t c (record { len = 0; first = 0; second = 0 }) 0 0
+pub copying-first : (t c : List ℕ) → length c ≡ most_bytes → Copying t c (record { len = 0; first = None; second = None }) 0 0
 copying-first t c h =
     record { copied = refl; found = none refl; short = omega arith; few = omega arith; high = omega arith; size = h }
 

@@ -4,10 +4,9 @@ use mathlib.Core.Bool.{Bool, true, false, cond}
 use mathlib.Core.List.{List, [], ◌∷◌, ◌++◌, append_assoc}
 use Prim.Native.Nat.{ℕ, suc, ◌+◌, ◌-◌, ◌≤◌, ◌<◌}
 use native.Mathlib.Omega.{arith}
-use native.Mathlib.Numerals.{add-one}
 use lib.Dec.{eqb}
-use lib.ListN.{length, get_or, take, drop, set, length-drop, drop_of_length-le}
-use lib.Seq.{take-suc, take-suc-set, take_all, drop-drop}
+use lib.ListN.{length, get_or, take, drop, length-drop, drop_of_length-le}
+use lib.Seq.{take_all, drop-drop}
 use borrow.Author.Tests.{eqb-true, eq-eqb}
 use Rattle.rules.specs.Base.{Name, bytes}
 use Rattle.rules.specs.Text.{line_feed, onto, lines, up_to}
@@ -84,17 +83,6 @@ module _ (t : List ℕ) (a i : ℕ) (low : a ≤ i) (far : i + up_to is_feed (dr
       go (b ∷ d) e h = no-feed b d e
 
 -- BYTES PUT
-
-pub put_on :
-    (c c₀ b : List ℕ) (at i : ℕ) → at + i < length c → i < length b → take (at + i) c ≡ take at c₀ ++ take i b →
-    take (at + (i + 1)) (set c (at + i) (get_or b i 0)) ≡ take at c₀ ++ take (i + 1) b
-put_on c c₀ b at i h l e =
-    let m : at + (i + 1) ≡ suc (at + i) = omega arith in
-    ap (λ (n : ℕ). take n (set c (at + i) (get_or b i 0))) m
-    ∙ (take-suc-set c (at + i) (get_or b i 0) h
-    ∙ (ap (λ (r : List ℕ). r ++ (get_or b i 0 ∷ [])) e
-    ∙ (append_assoc (take at c₀) (take i b) (get_or b i 0 ∷ [])
-    ∙ ap (λ (r : List ℕ). take at c₀ ++ r) (sym (take-suc b i 0 l) ∙ ap (λ (n : ℕ). take n b) (sym (add-one i))))))
 
 -- THE COPY
 

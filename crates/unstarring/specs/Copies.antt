@@ -1,5 +1,6 @@
 -- The copy of a text in which each star is a formula without atoms, and the lines of the first two stars.
-use Rattle.std.specs.Prelude.{◌≡◌, cond, List, [], ◌∷◌, ◌++◌, ℕ, ◌+◌, ◌-◌, ◌≤◌, ◌<◌, eqb, length, get_or, take, drop}
+use Rattle.std.specs.Prelude.{◌≡◌, Option, Some, None, cond, List, [], ◌∷◌, ◌++◌, ℕ, ◌+◌, ◌-◌, ◌≤◌, ◌<◌, length, slice_get, take, drop}
+use Rattle.std.specs.Option.{option_or}
 use Rattle.rules.specs.Base.{Name}
 use Rattle.rules.specs.Text.{lines}
 use Rattle.rules.specs.Fill.{is_starred, requires_line, stars_from, with_atoms}
@@ -16,13 +17,18 @@ pub record LineTo (t : List ℕ) (a e : ℕ) : Type 0 where
   pub high : e ≤ length t
   pub cut : lines (drop a t) ≡ take (e - a) (drop a t) ∷ lines (drop e t)
 
+-- the second star's line, if line n has one more star than the first
+abbrev pub second_at : Option ℕ → Option ℕ → ℕ → Option ℕ
+second_at (Some m) l n = option_or l (Some n)
+second_at None l n = l
+
 -- one star more, at line n; the copy so far has len bytes
 unfoldable pub with_star : Stars → ℕ → ℕ → Stars
 with_star s n len =
     record {
       len = len;
-      first = cond (eqb s.first 0) n s.first;
-      second = cond (eqb s.first 0) s.second (cond (eqb s.second 0) n s.second);
+      first = option_or s.first (Some n);
+      second = second_at s.first s.second n;
     }
 
 abbrev pub without_star : Stars → ℕ → Stars
@@ -39,5 +45,5 @@ pub record LineCopied (l : Name) (n : ℕ) (c : List ℕ) (s : Stars) (c' : List
 pub record Unstarred (t c : List ℕ) (s : Stars) : Type 0 where
   pub copied : take s.len c ≡ joined (with_atoms [] (lines t))
   pub short : s.len ≤ length t
-  pub first : s.first ≡ get_or (stars_from 0 (lines t)) 0 0
-  pub second : s.second ≡ get_or (stars_from 0 (lines t)) 1 0
+  pub first : s.first ≡ slice_get (stars_from 0 (lines t)) 0
+  pub second : s.second ≡ slice_get (stars_from 0 (lines t)) 1

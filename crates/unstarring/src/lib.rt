@@ -8,12 +8,12 @@ ghost use Rattle.unstarring.specs.Copies.{LineTo, with_star, LineCopied, Unstarr
 
 use read_bytes::Byte;
 
-// The copy's length so far, and the lines of the first two stars, from 1, or 0.
+// The copy's length so far, and the lines of the first two stars, from 1.
 #[derive(Clone, Copy)]
 pub struct Stars {
     pub len: usize,
-    pub first: usize,
-    pub second: usize,
+    pub first: Option<usize>,
+    pub second: Option<usize>,
 }
 
 // The place after the line that begins at `at`.
@@ -21,14 +21,12 @@ fn line_end(text: &[u8], at: usize) -> usize
     requires { at < length text.now }
     ensures { LineTo text.now at result }
 {
-    let mut i = at;
-    while i < text.len() {
+    for i in at..text.len() {
         if text[i] == Byte::LINE_FEED {
             return i + 1;
         }
-        i += 1;
     }
-    i
+    text.len()
 }
 
 // Is a line, its LF with it, `requires` with the one field `*`?
@@ -43,36 +41,26 @@ fn put(bytes: &[u8], copy: &mut [u8], at: usize) -> usize
     requires { at + length bytes.now ≤ length copy.old }
     ensures { (result ≡ at + length bytes.now) × (take result copy.new ≡ take at copy.old ++ bytes.now) × (length copy.new ≡ length copy.old) }
 {
-    let mut i = 0;
-    while i < bytes.len() {
-        copy[at + i] = bytes[i];
-        i += 1;
-    }
-    at + i
+    let end = at + bytes.len();
+    copy[at..end].copy_from_slice(bytes);
+    end
 }
 
 // One star more, at this line.
 fn with_star(s: Stars, line: usize, len: usize) -> Stars
     ensures { result ≡ with_star s line len }
 {
-    if s.first == 0 {
-        return Stars {
+    match s.first {
+        None => Stars {
             len,
-            first: line,
-            second: s.second,
-        };
-    }
-    if s.second == 0 {
-        return Stars {
+            first: Some(line),
+            ..s
+        },
+        Some(_) => Stars {
             len,
-            first: s.first,
-            second: line,
-        };
-    }
-    Stars {
-        len,
-        first: s.first,
-        second: s.second,
+            second: s.second.or(Some(line)),
+            ..s
+        },
     }
 }
 
@@ -86,11 +74,7 @@ fn put_line(line: &[u8], n: usize, copy: &mut [u8], s: Stars) -> Stars
         return with_star(s, n, len);
     }
     let len = put(line, copy, s.len);
-    Stars {
-        len,
-        first: s.first,
-        second: s.second,
-    }
+    Stars { len, ..s }
 }
 
 // The text into the copy, line by line.
@@ -100,8 +84,8 @@ pub fn unstar(text: &[u8], copy: &mut [u8]) -> Stars
 {
     let mut s = Stars {
         len: 0,
-        first: 0,
-        second: 0,
+        first: None,
+        second: None,
     };
     let mut at = 0;
     let mut n = 0;

@@ -1,4 +1,5 @@
 -- The row of a formula: it fits, and means its statement.
+use Rattle.std.proofs.Common.{Result, Ok, Err}
 use mathlib.Core.Path.{◌≡◌, refl, sym, ap, subst, ◌∙◌}
 use mathlib.Core.Bool.{Bool, true, false, cond, ◌||◌}
 use mathlib.Core.List.{List, [], ◌∷◌, map}
@@ -33,9 +34,7 @@ use Rattle.tables.proofs.Statements.{assert-means, release-means, join-means, lo
 use Rattle.write_rows.proofs.Methods.{requires-written, ensures-written, requires-names, ensures-names}
 use Rattle.write_rows.specs.Holds.{Holds, Building}
 use Rattle.write_rows.proofs.Rows.{no_field, row_written, row_kept, row-names, row-length, row_bytes}
-use Rattle.resolve_atoms.specs.declared.Put.{Put}
 use Rattle.read_types.specs.declared.Fault.{Fault}
-use Rattle.read_types.specs.declared.Verdict.{Verdict}
 use Rattle.resolve_atoms.specs.Written.{formula_after, judged_after, FormulaFollows, FormulaPut, FormulaTried}
 use Rattle.write_formulas.specs.Claims.{is_claim, has_condition, loop_with, claim_of, own_first, claim_row, ClaimFollows, ClaimPut, HeaderPut, ClaimTried, HeaderTried}
 
@@ -276,32 +275,32 @@ module _ {t w : List ℕ} {c : Names} {r n m : ℕ} (x : FormulaFollows t w c mo
       }
 
 -- A FORMULA THAT WAS TRIED
-module _ (t w : List ℕ) (c : Names) (r n : ℕ) (u : List ℕ) (q : Put) (y : FormulaTried t w c r n u q) where
-  pub tried-done : (m : ℕ) → q ≡ Put.Done m → (judged_after t w c r ≡ Verdict.Good) × FormulaPut t w c r n u m
+module _ (t w : List ℕ) (c : Names) (r n : ℕ) (u : List ℕ) (q : Result ℕ Fault) (y : FormulaTried t w c r n u q) where
+  pub tried-done : (m : ℕ) → q ≡ Ok m → (judged_after t w c r ≡ Ok tt) × FormulaPut t w c r n u m
   unfolding FormulaTried
   tried-done m i = subst (FormulaTried t w c r n u) i y
 
-  module _ {f : Fault} (i : q ≡ Put.Bad f) where
-    tried-bad : (judged_after t w c r ≡ Verdict.Bad f) × (length u ≡ length w)
+  module _ {f : Fault} (i : q ≡ Err f) where
+    tried-bad : (judged_after t w c r ≡ Err f) × (length u ≡ length w)
     unfolding FormulaTried
     tried-bad = subst (FormulaTried t w c r n u) i y
 
-    pub claim-bad : (k j l : ℕ) → ClaimTried t w c k r j n l u (Put.Bad f)
+    pub claim-bad : (k j l : ℕ) → ClaimTried t w c k r j n l u (Err f)
     unfolding ClaimTried
     claim-bad k j l = tried-bad
 
-    pub header-bad : (item : Formula ℕ → Item) (m : ℕ) → HeaderTried item t w c r m n u (Put.Bad f)
+    pub header-bad : (item : Formula ℕ → Item) (m : ℕ) → HeaderTried item t w c r m n u (Err f)
     unfolding HeaderTried
     header-bad item m = tried-bad
 
 pub claim-done :
-    (t w : List ℕ) (c : Names) (k r i n l : ℕ) (v : List ℕ) (m : ℕ) → judged_after t w c r ≡ Verdict.Good → ClaimPut t w c k r i n l v m →
-    ClaimTried t w c k r i n l v (Put.Done m)
+    (t w : List ℕ) (c : Names) (k r i n l : ℕ) (v : List ℕ) (m : ℕ) → judged_after t w c r ≡ Ok tt → ClaimPut t w c k r i n l v m →
+    ClaimTried t w c k r i n l v (Ok m)
 unfolding ClaimTried
 claim-done t w c k r i n l v m f x = (f, x)
 
 pub header-done :
-    (item : Formula ℕ → Item) (t w : List ℕ) (c : Names) (r m n : ℕ) (v : List ℕ) (e : ℕ) → judged_after t w c r ≡ Verdict.Good →
-    HeaderPut item t w c r m n v e → HeaderTried item t w c r m n v (Put.Done e)
+    (item : Formula ℕ → Item) (t w : List ℕ) (c : Names) (r m n : ℕ) (v : List ℕ) (e : ℕ) → judged_after t w c r ≡ Ok tt →
+    HeaderPut item t w c r m n v e → HeaderTried item t w c r m n v (Ok e)
 unfolding HeaderTried
 header-done item t w c r m n v e f x = (f, x)

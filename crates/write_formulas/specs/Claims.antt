@@ -1,5 +1,6 @@
 -- What a formula of a line becomes: the row of `assert`, `release`, `join` or `loop`; the requires or ensures of a method.
-use Rattle.std.specs.Prelude.{◌≡◌, Bool, true, false, cond, ◌||◌, List, [], ◌∷◌, ℕ, suc, ◌+◌, ◌-◌, eqb, length}
+use Rattle.std.specs.Prelude.{Result, Ok, Err, ◌≡◌, Bool, true, false, cond, ◌||◌, List, [], ◌∷◌, ℕ, suc, ◌+◌, ◌-◌, eqb, length}
+use Rattle.read_types.specs.declared.Fault.{Fault}
 use Rattle.rules.specs.Grammar.{assert_kind, release_kind, join_kind, loop_kind}
 use Rattle.rules.specs.Limits.{work_bytes}
 use Rattle.rules.specs.Syntax.{Formula, Stmt, own, cmp, simple, assert, release, join, loop, end}
@@ -13,8 +14,6 @@ use Rattle.rules.specs.Reading.{with_item}
 use Rattle.tables.specs.declared.Operands.{Operands}
 use Rattle.tables.specs.Tables.{Declared}
 use Rattle.write_rows.specs.Holds.{Holds}
-use Rattle.read_types.specs.declared.Verdict.{Verdict}
-use Rattle.resolve_atoms.specs.declared.Put.{Put}
 use Rattle.resolve_atoms.specs.Written.{formula_after, judged_after, FormulaFollows}
 
 -- by the number of the kind
@@ -75,10 +74,10 @@ pub record HeaderPut (item : Formula ℕ → Item) (t w : List ℕ) (c : Names) 
   pub size : length w' ≡ length w
 
 -- It is written just if its atoms are good.
-unfoldable pub ClaimTried : (t w : List ℕ) (c : Names) (k r i n l : ℕ) (w' : List ℕ) → Put → Type 0
-ClaimTried t w c k r i n l w' (Put.Done m) = (judged_after t w c r ≡ Verdict.Good) × ClaimPut t w c k r i n l w' m
-ClaimTried t w c k r i n l w' (Put.Bad f) = (judged_after t w c r ≡ Verdict.Bad f) × (length w' ≡ length w)
+unfoldable pub ClaimTried : (t w : List ℕ) (c : Names) (k r i n l : ℕ) (w' : List ℕ) → Result ℕ Fault → Type 0
+ClaimTried t w c k r i n l w' (Ok m) = (judged_after t w c r ≡ Ok tt) × ClaimPut t w c k r i n l w' m
+ClaimTried t w c k r i n l w' (Err f) = (judged_after t w c r ≡ Err f) × (length w' ≡ length w)
 
-unfoldable pub HeaderTried : (item : Formula ℕ → Item) (t w : List ℕ) (c : Names) (r m n : ℕ) (w' : List ℕ) → Put → Type 0
-HeaderTried item t w c r m n w' (Put.Done e) = (judged_after t w c r ≡ Verdict.Good) × HeaderPut item t w c r m n w' e
-HeaderTried item t w c r m n w' (Put.Bad f) = (judged_after t w c r ≡ Verdict.Bad f) × (length w' ≡ length w)
+unfoldable pub HeaderTried : (item : Formula ℕ → Item) (t w : List ℕ) (c : Names) (r m n : ℕ) (w' : List ℕ) → Result ℕ Fault → Type 0
+HeaderTried item t w c r m n w' (Ok e) = (judged_after t w c r ≡ Ok tt) × HeaderPut item t w c r m n w' e
+HeaderTried item t w c r m n w' (Err f) = (judged_after t w c r ≡ Err f) × (length w' ≡ length w)

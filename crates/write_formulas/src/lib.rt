@@ -11,7 +11,7 @@ ghost use Rattle.resolve_atoms.specs.Written.{FormulaFollows};
 ghost use Rattle.write_formulas.specs.Claims.{own_first, ClaimFollows, ClaimTried, HeaderTried};
 
 use read_scopes::Names;
-use resolve_atoms::Put;
+use read_types::Fault;
 use rules::Kind;
 use tables::Operands;
 
@@ -34,60 +34,60 @@ pub fn put_claim(
     i: usize,
     n: usize,
     line: usize,
-) -> Put
+) -> Result<usize, Fault>
     requires { AreaFits work.old c × ClaimFollows text.now work.old c kind r n × (i < most_statements) × (line < half_values) }
     ensures { ClaimTried text.now work.old c kind r i n line work.new result }
 {
-    let p = resolve_atoms::put_formula(text, work, r, n, c);
-    match p {
-        Put::Bad(f) => Put::Bad(f),
-        Put::Done(m) => {
-            let first = formula_first(kind, n);
-            write_rows::put_row(
-                work,
-                i,
-                Operands {
-                    kind,
-                    x: 0,
-                    y: 0,
-                    z: 0,
-                    member: 0,
-                    atoms: m - first,
-                    first,
-                    line,
-                },
-            );
-            Put::Done(m)
-        }
-    }
+    let m = resolve_atoms::put_formula(text, work, r, n, c)?;
+    let first = formula_first(kind, n);
+    write_rows::put_row(
+        work,
+        i,
+        Operands {
+            kind,
+            x: 0,
+            y: 0,
+            z: 0,
+            member: 0,
+            atoms: m - first,
+            first,
+            line,
+        },
+    );
+    Ok(m)
 }
 
-// Writes the formula after r as the atoms from n on, and as the requires of the method m.
-pub fn put_requires(text: &[u8], work: &mut [u8], c: Names, r: usize, m: usize, n: usize) -> Put
+// Writes the formula after r as the atoms from n on, and as the requires of the method m. As `put_ensures` but for its writer: one function
+// for both would take that as a closure and say what it leaves, for three lines.
+pub fn put_requires(
+    text: &[u8],
+    work: &mut [u8],
+    c: Names,
+    r: usize,
+    m: usize,
+    n: usize,
+) -> Result<usize, Fault>
     requires { AreaFits work.old c × FormulaFollows text.now work.old c most_atoms r n × (m < most_methods) }
     ensures { HeaderTried a_requires text.now work.old c r m n work.new result }
 {
-    let p = resolve_atoms::put_formula(text, work, r, n, c);
-    match p {
-        Put::Bad(f) => Put::Bad(f),
-        Put::Done(e) => {
-            write_rows::put_requires(work, m, n, e - n);
-            Put::Done(e)
-        }
-    }
+    let e = resolve_atoms::put_formula(text, work, r, n, c)?;
+    write_rows::put_requires(work, m, n, e - n);
+    Ok(e)
 }
 
 // Writes it as the ensures of the method m.
-pub fn put_ensures(text: &[u8], work: &mut [u8], c: Names, r: usize, m: usize, n: usize) -> Put
+pub fn put_ensures(
+    text: &[u8],
+    work: &mut [u8],
+    c: Names,
+    r: usize,
+    m: usize,
+    n: usize,
+) -> Result<usize, Fault>
     requires { AreaFits work.old c × FormulaFollows text.now work.old c most_atoms r n × (m < most_methods) }
     ensures { HeaderTried an_ensures text.now work.old c r m n work.new result }
 {
-    let p = resolve_atoms::put_formula(text, work, r, n, c);
-    match p {
-        Put::Bad(f) => Put::Bad(f),
-        Put::Done(e) => {
-            write_rows::put_ensures(work, m, n, e - n);
-            Put::Done(e)
-        }
-    }
+    let e = resolve_atoms::put_formula(text, work, r, n, c)?;
+    write_rows::put_ensures(work, m, n, e - n);
+    Ok(e)
 }

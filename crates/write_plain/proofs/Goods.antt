@@ -1,4 +1,5 @@
 -- What the tests of numbers 6, 7 and 9 say of a line that has its form, by the kind of the line.
+use Rattle.std.proofs.Common.{Ok}
 use mathlib.Core.Path.{◌≡◌, refl, sym, ap, ap₂, ◌∙◌}
 use mathlib.Core.Bool.{Bool, true, false, not, ◌&&◌, ◌||◌}
 use mathlib.Core.List.{List, [], ◌∷◌}
@@ -21,7 +22,6 @@ use Rattle.read_bytes.proofs.Search.{both_true, true-false}
 use Rattle.read_declarations.specs.Declares.{line_with}
 use Rattle.resolve_pass.specs.Passes.{line_judged}
 use Rattle.read_types.specs.declared.Fault.{Fault}
-use Rattle.read_types.specs.declared.Verdict.{Verdict}
 use Rattle.read_types.specs.Verdicts.{test, judged, and_then}
 use Rattle.read_types.specs.Types.{expr_judged, chain_judged}
 use Rattle.resolve_atoms.specs.Good.{atoms_judged}
@@ -45,7 +45,7 @@ module _ (Γ : Declarations) (vs : List Variable) (s : Scope) where
   set-shuffle :
       (x f y i e : Bool) →
       judged (x && (f && (y && true))) ((i && true) && (e && true)) true
-      ≡ test y Fault.Undeclared (and_then (judged (x && f) i true) (test e Fault.WrongType Verdict.Good))
+      ≡ test y Fault.Undeclared (and_then (judged (x && f) i true) (test e Fault.WrongType (Ok tt)))
   unfolding judged test and_then
   set-shuffle false f true i e = refl
   set-shuffle false f false i e = refl
@@ -70,7 +70,7 @@ module _ (Γ : Declarations) (vs : List Variable) (s : Scope) where
       (x r k e l : Bool) →
       judged (x && ((r && k) && true)) (e && true) ((l && true) && true)
       ≡ test x Fault.Undeclared
-      (test r Fault.Undeclared (test k Fault.Undeclared (test e Fault.WrongType (test l Fault.WrongTarget Verdict.Good))))
+      (test r Fault.Undeclared (test k Fault.Undeclared (test e Fault.WrongType (test l Fault.WrongTarget (Ok tt)))))
   unfolding judged test
   new-shuffle false r k e l = refl
   new-shuffle true false k e l = refl
@@ -91,8 +91,8 @@ module _ (Γ : Declarations) (vs : List Variable) (s : Scope) where
       (x y r d m z a l p q : Bool) →
       judged (x && (y && ((r && (d || m)) && (z && true)))) ((not d && true) && (a && true)) ((l && true) && ((p && q) && true))
       ≡ test (x && (y && z)) Fault.Undeclared
-      (and_then (test r Fault.Undeclared (test (not d) Fault.WrongType (test m Fault.Undeclared Verdict.Good)))
-      (test a Fault.WrongType (test l Fault.WrongTarget (test p Fault.WrongTarget (test q Fault.WrongTarget Verdict.Good)))))
+      (and_then (test r Fault.Undeclared (test (not d) Fault.WrongType (test m Fault.Undeclared (Ok tt))))
+      (test a Fault.WrongType (test l Fault.WrongTarget (test p Fault.WrongTarget (test q Fault.WrongTarget (Ok tt))))))
   unfolding judged test and_then
   call-shuffle false y r d m z a l p q = refl
   call-shuffle true false r d m z a l p q = refl
@@ -123,7 +123,7 @@ module _ (Γ : Declarations) (vs : List Variable) (s : Scope) where
   call-four (x ∷ y ∷ m ∷ z ∷ u ∷ ws) e = absurd (omega arith)
 
   return-shuffle :
-      (x e : Bool) → judged (x && true) (e && true) true ≡ test x Fault.Undeclared (test e Fault.WrongType Verdict.Good)
+      (x e : Bool) → judged (x && true) (e && true) true ≡ test x Fault.Undeclared (test e Fault.WrongType (Ok tt))
   unfolding judged test
   return-shuffle true true = refl
   return-shuffle true false = refl
@@ -139,7 +139,7 @@ module _ (Γ : Declarations) (vs : List Variable) (s : Scope) where
       (x y z i j k l : Bool) →
       judged (x && (y && (z && true))) ((i && (j && k)) && true) ((l && true) && true)
       ≡ test (x && (y && z)) Fault.Undeclared
-      (test i Fault.WrongType (test j Fault.WrongType (test k Fault.WrongType (test l Fault.WrongTarget Verdict.Good))))
+      (test i Fault.WrongType (test j Fault.WrongType (test k Fault.WrongType (test l Fault.WrongTarget (Ok tt)))))
   unfolding judged test
   compute-shuffle false y z i j k l = refl
   compute-shuffle true false z i j k l = refl
@@ -166,8 +166,8 @@ module _ (Γ : Declarations) (vs : List Variable) (s : Scope) where
       (y x f i e k l p : Bool) →
       judged (y && (x && (f && true))) ((i && true) && ((e && k) && true)) ((l && true) && p)
       ≡ test y Fault.Undeclared
-      (and_then (and_then (judged (x && f) i true) (test k Fault.WrongType Verdict.Good))
-      (test e Fault.WrongType (test l Fault.WrongTarget (test p Fault.WrongTarget Verdict.Good))))
+      (and_then (and_then (judged (x && f) i true) (test k Fault.WrongType (Ok tt)))
+      (test e Fault.WrongType (test l Fault.WrongTarget (test p Fault.WrongTarget (Ok tt)))))
   unfolding judged test and_then
   open-shuffle false x f i e k l p = refl
   open-shuffle true false f i e k l p = refl
@@ -193,7 +193,7 @@ module _ (Γ : Declarations) (vs : List Variable) (s : Scope) where
   shut-shuffle :
       (x f i k : Bool) →
       judged (x && (f && true)) ((i && true) && (k && true)) true
-      ≡ and_then (judged (x && f) i true) (test k Fault.WrongType Verdict.Good)
+      ≡ and_then (judged (x && f) i true) (test k Fault.WrongType (Ok tt))
   unfolding judged test and_then
   shut-shuffle true true true true = refl
   shut-shuffle true true true false = refl
@@ -244,22 +244,22 @@ module _ (Γ : Declarations) (vs : List Variable) (s : Scope) where
   shut-judged ws e = shut-two ws (formed-length (form (statement Shut)).operands ws e)
 
   -- a line that is its word alone
-  bare-judged : (k : Kind) → (form k).operands ≡ [] → (form k).tail ≡ nothing → (ws : List Name) → Formed k ws → line_judged Γ vs s (line_with k ws) ≡ Verdict.Good
+  bare-judged : (k : Kind) → (form k).operands ≡ [] → (form k).tail ≡ nothing → (ws : List Name) → Formed k ws → line_judged Γ vs s (line_with k ws) ≡ Ok tt
   unfolding line_judged formula_of atoms_judged
   bare-judged k o t ws e = formula-judged Γ vs s (line_with k ws) o ∙ none ws (formed-length [] ws (sym (ap₂ (λ os u. is_formed os u ws) o t) ∙ e))
     where
-      none : (ws : List Name) → length ws ≡ 0 → atoms_judged Γ vs (formula_of ws) ≡ Verdict.Good
+      none : (ws : List Name) → length ws ≡ 0 → atoms_judged Γ vs (formula_of ws) ≡ Ok tt
       none [] e = refl
       none (w ∷ ws) e = absurd (omega arith)
 
-  pub else-judged : (ws : List Name) → Formed (statement Else) ws → line_judged Γ vs s (line_with (statement Else) ws) ≡ Verdict.Good
+  pub else-judged : (ws : List Name) → Formed (statement Else) ws → line_judged Γ vs s (line_with (statement Else) ws) ≡ Ok tt
   unfolding Grammar.opened
   else-judged = bare-judged (statement Else) refl refl
 
-  pub end-judged : (ws : List Name) → Formed (statement End) ws → line_judged Γ vs s (line_with (statement End) ws) ≡ Verdict.Good
+  pub end-judged : (ws : List Name) → Formed (statement End) ws → line_judged Γ vs s (line_with (statement End) ws) ≡ Ok tt
   unfolding Grammar.opened
   end-judged = bare-judged (statement End) refl refl
 
-  pub again-judged : (ws : List Name) → Formed (statement Again) ws → line_judged Γ vs s (line_with (statement Again) ws) ≡ Verdict.Good
+  pub again-judged : (ws : List Name) → Formed (statement Again) ws → line_judged Γ vs s (line_with (statement Again) ws) ≡ Ok tt
   unfolding Grammar.opened
   again-judged = bare-judged (statement Again) refl refl

@@ -1,4 +1,6 @@
 -- The row of a line without atoms, by the number of its kind.
+use Rattle.std.proofs.Common.{Result, Ok, Err}
+use Rattle.read_types.specs.Verdicts.{Verdict}
 use mathlib.Core.Path.{◌≡◌, refl, sym, ap, subst, ◌∙◌}
 use mathlib.Core.Bool.{Bool, true, false, ◌||◌}
 use mathlib.Core.List.{List}
@@ -29,10 +31,8 @@ use Rattle.tables.specs.Tables.{OperandsFit}
 use Rattle.write_rows.specs.Holds.{Holds}
 use Rattle.write_rows.proofs.Rows.{row_bytes, row-names, row-length}
 use Rattle.read_types.specs.declared.Fault.{Fault}
-use Rattle.read_types.specs.declared.Verdict.{Verdict}
 use Rattle.resolve_pass.specs.Passes.{counts, line_judged}
 use Rattle.read_declarations.specs.Declares.{line_with}
-use Rattle.write_plain.specs.declared.TriedRow.{TriedRow}
 use Rattle.write_plain.specs.Plain.{set_row, new_row, call_row, return_row, compute_row, open_row, shut_row, plain_row, plain_judged, RowTried, is_plain, PlainFollows, PlainPut, PlainTried}
 use Rattle.write_plain.proofs.Goods.{set-judged, new-judged, call-judged, return-judged, else-judged, end-judged, again-judged, compute-judged, open-judged, shut-judged, computing}
 use Rattle.write_plain.proofs.Rows.{set-ok, new_ok, call_ok, return-ok, compute-ok, open-ok, shut_ok, empty-ok, set-written, new-written, call-written, return-written, compute-written, else-written, end-written, again-written, open-written, shut-written}
@@ -70,7 +70,7 @@ module _ (t w : List ℕ) (c : Counts.Names) (fits : NamesFit c) (l : ℕ) (ws :
   row_of k = plain_row Γ vs ws l k
 
   abbrev GoodOf : ℕ → Type 0
-  GoodOf k = plain_judged Γ vs ws k ≡ Verdict.Good
+  GoodOf k = plain_judged Γ vs ws k ≡ Ok tt
 
   -- the tests of a line that has its form
   pub plain-judged :
@@ -156,11 +156,11 @@ module _ (t w : List ℕ) (c : Counts.Names) (fits : NamesFit c) (l : ℕ) (ws :
       computes-written difference = compute-written t w c fits n l F room h difference ws
 
 -- THE ANSWER
-pub row_is : (v : Verdict) (o p : Operands) (q : TriedRow) → q ≡ TriedRow.Row p → RowTried v o q → (v ≡ Verdict.Good) × (p ≡ o)
+pub row_is : (v : Verdict) (o p : Operands) (q : Result Operands Fault) → q ≡ Ok p → RowTried v o q → (v ≡ Ok tt) × (p ≡ o)
 unfolding RowTried
 row_is v o p q e h = subst (RowTried v o) e h
 
-pub row-none : (v : Verdict) (o : Operands) (q : TriedRow) (f : Fault) → q ≡ TriedRow.Bad f → RowTried v o q → v ≡ Verdict.Bad f
+pub row-none : (v : Verdict) (o : Operands) (q : Result Operands Fault) (f : Fault) → q ≡ Err f → RowTried v o q → v ≡ Err f
 unfolding RowTried
 row-none v o q f e h = subst (RowTried v o) e h
 
@@ -169,7 +169,7 @@ module _ (t w : List ℕ) (c : Counts.Names) (k r i l : ℕ) (v : List ℕ) (rea
   fields = more (drop r t)
 
   plain-put :
-      i < most_statements → plain_judged (declarations_in t w c) (variables_in t w c) fields k ≡ Verdict.Good →
+      i < most_statements → plain_judged (declarations_in t w c) (variables_in t w c) fields k ≡ Ok tt →
       v ≡ put_row w i (plain_row (declarations_in t w c) (variables_in t w c) fields l k) → PlainPut t w c k r i l v
   plain-put room good e =
       let o : Operands = plain_row (declarations_in t w c) (variables_in t w c) fields l k in
@@ -186,13 +186,13 @@ module _ (t w : List ℕ) (c : Counts.Names) (k r i l : ℕ) (v : List ℕ) (rea
       }
 
   pub plain_done :
-      i < most_statements → plain_judged (declarations_in t w c) (variables_in t w c) fields k ≡ Verdict.Good →
-      v ≡ put_row w i (plain_row (declarations_in t w c) (variables_in t w c) fields l k) → PlainTried t w c k r i l v Verdict.Good
+      i < most_statements → plain_judged (declarations_in t w c) (variables_in t w c) fields k ≡ Ok tt →
+      v ≡ put_row w i (plain_row (declarations_in t w c) (variables_in t w c) fields l k) → PlainTried t w c k r i l v (Ok tt)
   unfolding PlainTried
   plain_done room good e = (λ s. plain-judged t w c ready.fits l fields s k x.kind x.formed ∙ good, plain-put room good e)
 
   pub plain-bad :
-      (f : Fault) → plain_judged (declarations_in t w c) (variables_in t w c) fields k ≡ Verdict.Bad f → v ≡ w →
-      PlainTried t w c k r i l v (Verdict.Bad f)
+      (f : Fault) → plain_judged (declarations_in t w c) (variables_in t w c) fields k ≡ Err f → v ≡ w →
+      PlainTried t w c k r i l v (Err f)
   unfolding PlainTried
   plain-bad f bad e = (λ s. plain-judged t w c ready.fits l fields s k x.kind x.formed ∙ bad, e)

@@ -1,4 +1,5 @@
 -- A line without atoms that is good: its row fits, and means its statement.
+use Rattle.std.proofs.Common.{Ok}
 use mathlib.Core.Path.{◌≡◌, refl, sym, ap, ◌∙◌}
 use mathlib.Core.Bool.{true, not, ◌&&◌}
 use mathlib.Core.List.{List, []}
@@ -38,7 +39,6 @@ use Rattle.resolve_pass.specs.Passes.{counts}
 use Rattle.read_declarations.specs.Texts.{SpanAfter}
 use Rattle.read_declarations.specs.Declares.{line_with}
 use Rattle.read_types.specs.declared.Fault.{Fault}
-use Rattle.read_types.specs.declared.Verdict.{Verdict}
 use Rattle.read_types.specs.Types.{expr_judged, chain_judged}
 use Rattle.read_types.proofs.Verdicts.{then-good, test_good}
 use Rattle.resolve_atoms.proofs.Sides.{variable-small, path-fits}
@@ -81,11 +81,11 @@ module _ (t w : List ℕ) (c : Counts.Names) (fits : NamesFit c) (n l : ℕ) whe
       }
 
   -- WHAT IS KNOWN
-  path-known : (x f : Name) → expr_judged Γ vs (path x f) ≡ Verdict.Good → (variable_number vs x < frame_variables) × (field_number Γ f < most_names)
+  path-known : (x f : Name) → expr_judged Γ vs (path x f) ≡ Ok tt → (variable_number vs x < frame_variables) × (field_number Γ f < most_names)
   unfolding SideFits resolve_expr
   path-known x f g = path-fits t w c fits x f g
 
-  chain-known : (x f : Name) → chain_judged Γ vs x f ≡ Verdict.Good → (variable_number vs x < frame_variables) × (field_number Γ f < most_names)
+  chain-known : (x f : Name) → chain_judged Γ vs x f ≡ Ok tt → (variable_number vs x < frame_variables) × (field_number Γ f < most_names)
   unfolding chain_judged
   chain-known x f g = path-known x f (then-good (expr_judged Γ vs (path x f)) _ g).0
 
@@ -93,7 +93,7 @@ module _ (t w : List ℕ) (c : Counts.Names) (fits : NamesFit c) (n l : ℕ) whe
   small = variable-small t w c fits
 
   -- BY THE KIND OF THE LINE
-  pub set-ok : (ws : List Name) → set_judged Γ vs ws ≡ Verdict.Good → OperandsFit (counts c) n (set_row Γ vs ws l)
+  pub set-ok : (ws : List Name) → set_judged Γ vs ws ≡ Ok tt → OperandsFit (counts c) n (set_row Γ vs ws l)
   unfolding set_judged set_row
   set-ok ws e =
       let a = test_good (in_scope vs (get_or ws 2 [])) Fault.Undeclared _ e in
@@ -101,7 +101,7 @@ module _ (t w : List ℕ) (c : Counts.Names) (fits : NamesFit c) (n l : ℕ) whe
       bare-ok 8 _ _ _ _ (omega arith, omega arith) (λ e. omega arith) (λ e. omega arith) (λ e. omega arith) p.0
       (small (get_or ws 2 []) a.0) (omega arith) (λ i. p.1) (λ i. absurd (omega arith)) (λ i. absurd (omega arith))
 
-  pub open-ok : (ws : List Name) → open_judged Γ vs ws ≡ Verdict.Good → OperandsFit (counts c) n (open_row Γ vs ws l)
+  pub open-ok : (ws : List Name) → open_judged Γ vs ws ≡ Ok tt → OperandsFit (counts c) n (open_row Γ vs ws l)
   unfolding open_judged open_row
   open-ok ws e =
       let a = test_good (in_scope vs (get_or ws 0 [])) Fault.Undeclared _ e in
@@ -109,14 +109,14 @@ module _ (t w : List ℕ) (c : Counts.Names) (fits : NamesFit c) (n l : ℕ) whe
       bare-ok 23 _ _ _ _ (omega arith, omega arith) (λ e. omega arith) (λ e. omega arith) (λ e. omega arith)
       (small (get_or ws 0 []) a.0) p.0 (omega arith) (λ i. p.1) (λ i. absurd (omega arith)) (λ i. absurd (omega arith))
 
-  pub shut_ok : (ws : List Name) → shut_judged Γ vs ws ≡ Verdict.Good → OperandsFit (counts c) n (shut_row Γ vs ws l)
+  pub shut_ok : (ws : List Name) → shut_judged Γ vs ws ≡ Ok tt → OperandsFit (counts c) n (shut_row Γ vs ws l)
   unfolding shut_judged shut_row
   shut_ok ws e =
       let p = chain-known (get_or ws 0 []) (get_or ws 1 []) e in
       bare-ok 24 _ _ _ _ (omega arith, omega arith) (λ e. omega arith) (λ e. omega arith) (λ e. omega arith) p.0
       (omega arith) (omega arith) (λ i. p.1) (λ i. absurd (omega arith)) (λ i. absurd (omega arith))
 
-  pub new_ok : (ws : List Name) → new_judged Γ vs ws ≡ Verdict.Good → OperandsFit (counts c) n (new_row Γ vs ws l)
+  pub new_ok : (ws : List Name) → new_judged Γ vs ws ≡ Ok tt → OperandsFit (counts c) n (new_row Γ vs ws l)
   unfolding new_judged new_row
   new_ok ws e =
       let a = test_good (in_scope vs (get_or ws 0 [])) Fault.Undeclared _ e in
@@ -126,14 +126,14 @@ module _ (t w : List ℕ) (c : Counts.Names) (fits : NamesFit c) (n l : ℕ) whe
       (small (get_or ws 0 []) a.0) (omega arith) (omega arith) (no_field 10 (omega arith, omega arith))
       (λ i. ltb-true (class_number Γ (get_or ws 1 [])) c.classes (sym (class-any t w c (get_or ws 1 [])) ∙ k.0)) (λ i. absurd (omega arith))
 
-  pub return-ok : (ws : List Name) → return_judged Γ vs ws ≡ Verdict.Good → OperandsFit (counts c) n (return_row Γ vs ws l)
+  pub return-ok : (ws : List Name) → return_judged Γ vs ws ≡ Ok tt → OperandsFit (counts c) n (return_row Γ vs ws l)
   unfolding return_judged return_row
   return-ok ws e =
       let a = test_good (in_scope vs (get_or ws 0 [])) Fault.Undeclared _ e in
       bare-ok 12 _ _ _ _ (omega arith, omega arith) (λ e. omega arith) (λ e. omega arith) (λ e. omega arith) (small (get_or ws 0 []) a.0)
       (omega arith) (omega arith) (no_field 12 (omega arith, omega arith)) (λ i. absurd (omega arith)) (λ i. absurd (omega arith))
 
-  pub call_ok : (ws : List Name) → call_judged Γ vs ws ≡ Verdict.Good → OperandsFit (counts c) n (call_row Γ vs ws l)
+  pub call_ok : (ws : List Name) → call_judged Γ vs ws ≡ Ok tt → OperandsFit (counts c) n (call_row Γ vs ws l)
   unfolding call_judged method_judged call_row
   call_ok ws e =
       let y : Name = get_or ws 1 [] in
@@ -149,7 +149,7 @@ module _ (t w : List ℕ) (c : Counts.Names) (fits : NamesFit c) (n l : ℕ) whe
       (λ j. ltb-true (method_number Γ (variable_type vs y) m) c.methods (sym (method-any t w c (variable_type vs y) m) ∙ k.0))
 
   pub compute-ok :
-      (o : Operation) (ws : List Name) → compute_judged Γ vs ws ≡ Verdict.Good →
+      (o : Operation) (ws : List Name) → compute_judged Γ vs ws ≡ Ok tt →
       OperandsFit (counts c) n (compute_row Γ vs ws l (statement_number (computing o)))
   unfolding compute_judged compute_row statement_number
   compute-ok o ws e =
@@ -180,25 +180,25 @@ module _ (t w : List ℕ) (c : Counts.Names) (fits : NamesFit c) (n l : ℕ) whe
     abbrev Written : Operands → Kind → List Name → Type 0
     Written r k ws = Holds (counts c) (put_row w (length F.rows) r) (with_item F l (item_of Γ vs k (line_with k ws))) n
 
-    pub set-written : (ws : List Name) → set_judged Γ vs ws ≡ Verdict.Good → Written (set_row Γ vs ws l) (statement Set) ws
+    pub set-written : (ws : List Name) → set_judged Γ vs ws ≡ Ok tt → Written (set_row Γ vs ws l) (statement Set) ws
     unfolding item_of Items.resolve_statement Items.resolve_set Scopes.operand set_row
     set-written ws x = row_written (counts c) w F n (set_row Γ vs ws l) _ room (set-ok ws x) (set-means w (set_row Γ vs ws l) refl) h
 
-    pub new-written : (ws : List Name) → new_judged Γ vs ws ≡ Verdict.Good → Written (new_row Γ vs ws l) (statement New) ws
+    pub new-written : (ws : List Name) → new_judged Γ vs ws ≡ Ok tt → Written (new_row Γ vs ws l) (statement New) ws
     unfolding item_of Items.resolve_statement Scopes.operand new_row
     new-written ws x = row_written (counts c) w F n (new_row Γ vs ws l) _ room (new_ok ws x) (new-means w (new_row Γ vs ws l) refl) h
 
-    pub call-written : (ws : List Name) → call_judged Γ vs ws ≡ Verdict.Good → Written (call_row Γ vs ws l) (statement Call) ws
+    pub call-written : (ws : List Name) → call_judged Γ vs ws ≡ Ok tt → Written (call_row Γ vs ws l) (statement Call) ws
     unfolding item_of Items.resolve_statement Items.resolve_call Scopes.operand call_row
     call-written ws x = row_written (counts c) w F n (call_row Γ vs ws l) _ room (call_ok ws x) (call-means w (call_row Γ vs ws l) refl) h
 
-    pub return-written : (ws : List Name) → return_judged Γ vs ws ≡ Verdict.Good → Written (return_row Γ vs ws l) (statement Return) ws
+    pub return-written : (ws : List Name) → return_judged Γ vs ws ≡ Ok tt → Written (return_row Γ vs ws l) (statement Return) ws
     unfolding item_of Items.resolve_statement Scopes.operand return_row
     return-written ws x =
         row_written (counts c) w F n (return_row Γ vs ws l) _ room (return-ok ws x) (return-means w (return_row Γ vs ws l) refl) h
 
     pub compute-written :
-        (o : Operation) (ws : List Name) → compute_judged Γ vs ws ≡ Verdict.Good →
+        (o : Operation) (ws : List Name) → compute_judged Γ vs ws ≡ Ok tt →
         Written (compute_row Γ vs ws l (statement_number (computing o))) (statement (computing o)) ws
     unfolding item_of Items.resolve_statement Items.resolve_compute Scopes.operand compute_row statement_number is_computing operation_of
     compute-written sum ws x =
@@ -206,11 +206,11 @@ module _ (t w : List ℕ) (c : Counts.Names) (fits : NamesFit c) (n l : ℕ) whe
     compute-written difference ws x =
         row_written (counts c) w F n (compute_row Γ vs ws l 20) _ room (compute-ok difference ws x) (compute-means w (compute_row Γ vs ws l 20) tt) h
 
-    pub open-written : (ws : List Name) → open_judged Γ vs ws ≡ Verdict.Good → Written (open_row Γ vs ws l) (statement Open) ws
+    pub open-written : (ws : List Name) → open_judged Γ vs ws ≡ Ok tt → Written (open_row Γ vs ws l) (statement Open) ws
     unfolding item_of Items.resolve_statement Items.resolve_open Scopes.operand open_row
     open-written ws x = row_written (counts c) w F n (open_row Γ vs ws l) _ room (open-ok ws x) (open-means w (open_row Γ vs ws l) refl) h
 
-    pub shut-written : (ws : List Name) → shut_judged Γ vs ws ≡ Verdict.Good → Written (shut_row Γ vs ws l) (statement Shut) ws
+    pub shut-written : (ws : List Name) → shut_judged Γ vs ws ≡ Ok tt → Written (shut_row Γ vs ws l) (statement Shut) ws
     unfolding item_of Items.resolve_statement Scopes.operand shut_row
     shut-written ws x = row_written (counts c) w F n (shut_row Γ vs ws l) _ room (shut_ok ws x) (shut-means w (shut_row Γ vs ws l) refl) h
 

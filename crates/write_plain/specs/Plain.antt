@@ -1,5 +1,5 @@
 -- Rows of the statements that have no atoms: `set`, `new`, `call`, `return`, `else`, `end`, `add`, `sub`, `again`, `open`, `shut`.
-use Rattle.std.specs.Prelude.{◌≡◌, Bool, true, not, cond, ◌&&◌, ◌||◌, List, [], ℕ, ◌≤◌, eqb, ltb, length, get_or, drop}
+use Rattle.std.specs.Prelude.{Result, Ok, Err, ◌≡◌, Bool, true, not, cond, ◌&&◌, ◌||◌, List, [], ℕ, ◌≤◌, eqb, ltb, length, get_or, drop}
 use Rattle.rules.specs.Base.{Name, bytes, is, eq_name, any}
 use Rattle.rules.specs.Limits.{work_bytes}
 use Rattle.rules.specs.Syntax.{path}
@@ -19,8 +19,7 @@ use Rattle.read_scopes.specs.Meanings.{declarations_in, variables_in}
 use Rattle.read_lookups.specs.LookUps.{type_of}
 use Rattle.read_types.specs.declared.Member.{Member}
 use Rattle.read_types.specs.declared.Fault.{Fault}
-use Rattle.read_types.specs.declared.Verdict.{Verdict}
-use Rattle.read_types.specs.Verdicts.{test, and_then}
+use Rattle.read_types.specs.Verdicts.{Verdict, test, and_then}
 use Rattle.read_types.specs.Types.{expr_judged, chain_judged}
 use Rattle.rules.specs.Syntax.{Program}
 use Rattle.rules.specs.Reading.{with_item}
@@ -28,7 +27,6 @@ use Rattle.tables.specs.declared.Operands.{Operands}
 use Rattle.write_rows.specs.Holds.{Holds}
 use Rattle.read_declarations.specs.Declares.{FormedAfter}
 use Rattle.resolve_pass.specs.Passes.{counts, line_after, line_judged}
-use Rattle.write_plain.specs.declared.TriedRow.{TriedRow}
 
 -- a row without atoms, of this line
 abbrev pub bare : ℕ → ℕ → ℕ → ℕ → ℕ → ℕ → Operands
@@ -82,7 +80,7 @@ module _ (Γ : Declarations) (vs : List Variable) (ws : List Name) where
       let y : Name = get_or ws 2 [] in
       test (in_scope vs y) Fault.Undeclared
       (and_then (expr_judged Γ vs (path x f))
-      (test (eq_name (field_type Γ (variable_type vs x) f) (variable_type vs y)) Fault.WrongType Verdict.Good))
+      (test (eq_name (field_type Γ (variable_type vs x) f) (variable_type vs y)) Fault.WrongType (Ok tt)))
 
   -- "the x of `new` is of class C"
   unfoldable pub new_judged : Verdict
@@ -92,7 +90,7 @@ module _ (Γ : Declarations) (vs : List Variable) (ws : List Name) where
       test (in_scope vs x) Fault.Undeclared
       (test (not (reserved C)) Fault.Undeclared
       (test (any (eq_name C) Γ.classes) Fault.Undeclared
-      (test (eq_name (variable_type vs x) C) Fault.WrongType (test (is_local (variable_number vs x)) Fault.WrongTarget Verdict.Good))))
+      (test (eq_name (variable_type vs x) C) Fault.WrongType (test (is_local (variable_number vs x)) Fault.WrongTarget (Ok tt)))))
 
   -- y is of a class that has the method m
   unfoldable pub method_judged : Verdict
@@ -101,7 +99,7 @@ module _ (Γ : Declarations) (vs : List Variable) (ws : List Name) where
       let m : Name = get_or ws 2 [] in
       test (not (reserved m)) Fault.Undeclared
       (test (not (is_int vs y)) Fault.WrongType
-      (test (any (is_method_of Γ (variable_type vs y) m) Γ.methods) Fault.Undeclared Verdict.Good))
+      (test (any (is_method_of Γ (variable_type vs y) m) Γ.methods) Fault.Undeclared (Ok tt)))
 
   -- its result is of x's type, its parameter of z's
   unfoldable pub call_agrees : Bool
@@ -115,7 +113,7 @@ module _ (Γ : Declarations) (vs : List Variable) (ws : List Name) where
       let x : ℕ = variable_number vs (get_or ws 0 []) in
       test (is_local x) Fault.WrongTarget
       (test (not (eqb x (variable_number vs (get_or ws 1 [])))) Fault.WrongTarget
-      (test (not (eqb x (variable_number vs (get_or ws 3 [])))) Fault.WrongTarget Verdict.Good))
+      (test (not (eqb x (variable_number vs (get_or ws 3 [])))) Fault.WrongTarget (Ok tt)))
 
   unfoldable pub call_judged : Verdict
   call_judged =
@@ -127,7 +125,7 @@ module _ (Γ : Declarations) (vs : List Variable) (ws : List Name) where
   return_judged =
       let x : Name = get_or ws 0 [] in
       test (in_scope vs x) Fault.Undeclared
-      (test (eq_name (variable_type vs x) (variable_type vs (bytes "result"))) Fault.WrongType Verdict.Good)
+      (test (eq_name (variable_type vs x) (variable_type vs (bytes "result"))) Fault.WrongType (Ok tt))
 
   -- all three are int
   unfoldable pub compute_judged : Verdict
@@ -136,7 +134,7 @@ module _ (Γ : Declarations) (vs : List Variable) (ws : List Name) where
       (test (is_int vs (get_or ws 0 [])) Fault.WrongType
       (test (is_int vs (get_or ws 1 [])) Fault.WrongType
       (test (is_int vs (get_or ws 2 [])) Fault.WrongType
-      (test (is_local (variable_number vs (get_or ws 0 []))) Fault.WrongTarget Verdict.Good))))
+      (test (is_local (variable_number vs (get_or ws 0 []))) Fault.WrongTarget (Ok tt)))))
 
   -- y is a local of x's class, and not x
   unfoldable pub open_judged : Verdict
@@ -147,7 +145,7 @@ module _ (Γ : Declarations) (vs : List Variable) (ws : List Name) where
       (and_then (chain_judged Γ vs x (get_or ws 2 []))
       (test (eq_name (variable_type vs y) (variable_type vs x)) Fault.WrongType
       (test (is_local (variable_number vs y)) Fault.WrongTarget
-      (test (not (eqb (variable_number vs y) (variable_number vs x))) Fault.WrongTarget Verdict.Good))))
+      (test (not (eqb (variable_number vs y) (variable_number vs x))) Fault.WrongTarget (Ok tt)))))
 
   unfoldable pub shut_judged : Verdict
   shut_judged = chain_judged Γ vs (get_or ws 0 []) (get_or ws 1 [])
@@ -162,17 +160,17 @@ module _ (Γ : Declarations) (vs : List Variable) (ws : List Name) where
       (cond (is_computing k) compute_judged
       (cond (eqb k open_kind) open_judged
       (cond (eqb k shut_kind) shut_judged
-      Verdict.Good))))))
+      (Ok tt)))))))
 
 -- the row o just if it is good
-unfoldable pub RowTried : Verdict → Operands → TriedRow → Type 0
-RowTried v o (TriedRow.Row r) = (v ≡ Verdict.Good) × (r ≡ o)
-RowTried v o (TriedRow.Bad f) = v ≡ Verdict.Bad f
+unfoldable pub RowTried : Verdict → Operands → Result Operands Fault → Type 0
+RowTried v o (Ok r) = (v ≡ Ok tt) × (r ≡ o)
+RowTried v o (Err f) = v ≡ Err f
 
 -- of the fields after r of the text t, by the rows of names in w: the row just if the line is good
 abbrev pub TriedAfter :
     List ℕ → List ℕ → Names → ℕ → (Declarations → List Variable → List Name → Verdict) →
-    (Declarations → List Variable → List Name → ℕ → Operands) → ℕ → TriedRow → Type 0
+    (Declarations → List Variable → List Name → ℕ → Operands) → ℕ → Result Operands Fault → Type 0
 TriedAfter t w c r says row l o =
     RowTried (says (declarations_in t w c) (variables_in t w c) (more (drop r t)))
     (row (declarations_in t w c) (variables_in t w c) (more (drop r t)) l) o
@@ -183,7 +181,7 @@ TriedAfter t w c r says row l o =
 abbrev pub may_set : List ℕ → List ℕ → Member → ℕ → Verdict
 may_set t w x y =
     test (ltb y frame_variables) Fault.Undeclared
-    (and_then x.verdict (test (eq_name (name_in t x.is) (name_in t (type_of w y))) Fault.WrongType Verdict.Good))
+    (and_then x.verdict (test (eq_name (name_in t x.is) (name_in t (type_of w y))) Fault.WrongType (Ok tt)))
 
 -- x is a local of the class that is named at s and has the number k
 abbrev pub may_hold : List ℕ → List ℕ → Names → ℕ → ℕ → Span → Verdict
@@ -191,7 +189,7 @@ may_hold t w c x k s =
     test (ltb x frame_variables) Fault.Undeclared
     (test (not (reserved (name_in t s))) Fault.Undeclared
     (test (ltb k c.classes) Fault.Undeclared
-    (test (eq_name (name_in t (type_of w x)) (name_in t s)) Fault.WrongType (test (is_local x) Fault.WrongTarget Verdict.Good))))
+    (test (eq_name (name_in t (type_of w x)) (name_in t s)) Fault.WrongType (test (is_local x) Fault.WrongTarget (Ok tt)))))
 
 -- all three are variables
 abbrev pub are_known : ℕ → ℕ → ℕ → Bool
@@ -201,12 +199,12 @@ are_known x y z = ltb x frame_variables && (ltb y frame_variables && ltb z frame
 abbrev pub may_name : List ℕ → Span → Span → ℕ → ℕ → Verdict
 may_name t class m i n =
     test (not (reserved (name_in t m))) Fault.Undeclared
-    (test (not (is "int" (name_in t class))) Fault.WrongType (test (ltb i n) Fault.Undeclared Verdict.Good))
+    (test (not (is "int" (name_in t class))) Fault.WrongType (test (ltb i n) Fault.Undeclared (Ok tt)))
 
 -- x is a local, and neither y nor z
 abbrev pub may_take : ℕ → ℕ → ℕ → Verdict
 may_take x y z =
-    test (is_local x) Fault.WrongTarget (test (not (eqb x y)) Fault.WrongTarget (test (not (eqb x z)) Fault.WrongTarget Verdict.Good))
+    test (is_local x) Fault.WrongTarget (test (not (eqb x y)) Fault.WrongTarget (test (not (eqb x z)) Fault.WrongTarget (Ok tt)))
 
 -- x and z are of the types of the method's result and parameter
 abbrev pub agree_with : List ℕ → List ℕ → ℕ → ℕ → MethodDeclaration → Bool
@@ -225,7 +223,7 @@ may_compute t w x y z =
     test (are_known x y z) Fault.Undeclared
     (test (is "int" (name_in t (type_of w x))) Fault.WrongType
     (test (is "int" (name_in t (type_of w y))) Fault.WrongType
-    (test (is "int" (name_in t (type_of w z))) Fault.WrongType (test (is_local x) Fault.WrongTarget Verdict.Good))))
+    (test (is "int" (name_in t (type_of w z))) Fault.WrongType (test (is_local x) Fault.WrongTarget (Ok tt)))))
 
 -- y is a local of the class of x, which has the chain, and not x
 abbrev pub may_open : List ℕ → List ℕ → Member → ℕ → Verdict
@@ -233,7 +231,7 @@ may_open t w x y =
     test (ltb y frame_variables) Fault.Undeclared
     (and_then x.verdict
     (test (eq_name (name_in t (type_of w y)) (name_in t (type_of w x.variable))) Fault.WrongType
-    (test (is_local y) Fault.WrongTarget (test (not (eqb y x.variable)) Fault.WrongTarget Verdict.Good))))
+    (test (is_local y) Fault.WrongTarget (test (not (eqb y x.variable)) Fault.WrongTarget (Ok tt)))))
 
 -- by the number of the kind
 unfoldable pub is_plain : ℕ → Bool
@@ -258,7 +256,7 @@ pub record PlainPut (t w : List ℕ) (c : Names) (k r i l : ℕ) (w' : List ℕ)
 
 -- it is written just if it is good, whatever the scope
 unfoldable pub PlainTried : (t w : List ℕ) (c : Names) (k r i l : ℕ) (w' : List ℕ) → Verdict → Type 0
-PlainTried t w c k r i l w' Verdict.Good =
-    ((s : Scope) → line_judged (declarations_in t w c) (variables_in t w c) s (line_after t r k) ≡ Verdict.Good) × PlainPut t w c k r i l w'
-PlainTried t w c k r i l w' (Verdict.Bad f) =
-    ((s : Scope) → line_judged (declarations_in t w c) (variables_in t w c) s (line_after t r k) ≡ Verdict.Bad f) × (w' ≡ w)
+PlainTried t w c k r i l w' (Ok u) =
+    ((s : Scope) → line_judged (declarations_in t w c) (variables_in t w c) s (line_after t r k) ≡ Ok tt) × PlainPut t w c k r i l w'
+PlainTried t w c k r i l w' (Err f) =
+    ((s : Scope) → line_judged (declarations_in t w c) (variables_in t w c) s (line_after t r k) ≡ Err f) × (w' ≡ w)

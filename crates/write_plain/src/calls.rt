@@ -5,11 +5,11 @@ ghost use Rattle.tables.specs.Layout.{frame_variables};
 ghost use Rattle.read_scopes.specs.Meanings.{AreaFits, declarations_in};
 ghost use Rattle.write_plain.specs.Plain.{call_row, call_judged, TriedAfter, are_known, may_name, may_take, agree_with, may_call};
 
-use crate::TriedRow;
 use read_names::Span;
 use read_scopes::Names;
-use read_types::{Fault, Verdict};
+use read_types::Fault;
 use rules::Kind;
+use tables::Operands;
 
 // Are x, y and z variables?
 pub fn are_known(x: usize, y: usize, z: usize) -> bool
@@ -25,27 +25,27 @@ pub fn are_known(x: usize, y: usize, z: usize) -> bool
 }
 
 // May a line name the method named at m of a class, if i, of n methods, is its number?
-fn judge_method(text: &[u8], class: Span, m: Span, i: usize, n: usize) -> Verdict
+fn judge_method(text: &[u8], class: Span, m: Span, i: usize, n: usize) -> Result<(), Fault>
     ensures { result ≡ may_name text.now class m i n }
 {
     if read_words::is_reserved(read_names::name_in(text, m)) {
-        return Verdict::Bad(Fault::Undeclared);
+        return Err(Fault::Undeclared);
     }
     if read_lookups::is_int(text, class) {
-        return Verdict::Bad(Fault::WrongType);
+        return Err(Fault::WrongType);
     }
     read_types::test(i < n, Fault::Undeclared)
 }
 
 // May a call that reads y and z assign to x?
-fn judge_target(x: usize, y: usize, z: usize) -> Verdict
+fn judge_target(x: usize, y: usize, z: usize) -> Result<(), Fault>
     ensures { result ≡ may_take x y z }
 {
     if !crate::is_local(x) {
-        return Verdict::Bad(Fault::WrongTarget);
+        return Err(Fault::WrongTarget);
     }
     if x == y {
-        return Verdict::Bad(Fault::WrongTarget);
+        return Err(Fault::WrongTarget);
     }
     read_types::test(x != z, Fault::WrongTarget)
 }
@@ -80,25 +80,28 @@ fn judge_call(
     class: Span,
     m: Span,
     i: usize,
-) -> Verdict
+) -> Result<(), Fault>
     requires { AreaFits work.now c × (x ≤ frame_variables) × (z ≤ frame_variables) }
     ensures { result ≡ may_call text.now work.now c x y z class m i }
 {
     if !are_known(x, y, z) {
-        return Verdict::Bad(Fault::Undeclared);
+        return Err(Fault::Undeclared);
     }
-    let v = judge_method(text, class, m, i, c.methods);
-    if let Verdict::Bad(f) = v {
-        return Verdict::Bad(f);
-    }
+    judge_method(text, class, m, i, c.methods)?;
     if !call_agrees(text, work, c, x, z, i) {
-        return Verdict::Bad(Fault::WrongType);
+        return Err(Fault::WrongType);
     }
     judge_target(x, y, z)
 }
 
 // `call x y m z`
-pub fn call_row(text: &[u8], work: &[u8], c: Names, r: usize, line: usize) -> TriedRow
+pub fn call_row(
+    text: &[u8],
+    work: &[u8],
+    c: Names,
+    r: usize,
+    line: usize,
+) -> Result<Operands, Fault>
     requires { AreaFits work.now c × (r ≤ length text.now) }
     ensures { TriedAfter text.now work.now c r call_judged call_row line result }
 {

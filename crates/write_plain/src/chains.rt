@@ -7,11 +7,11 @@ ghost use Rattle.read_scopes.specs.Meanings.{AreaFits};
 ghost use Rattle.read_types.specs.Types.{ChainIn};
 ghost use Rattle.write_plain.specs.Plain.{open_row, shut_row, open_judged, shut_judged, TriedAfter, may_open};
 
-use crate::TriedRow;
 use read_names::Span;
 use read_scopes::Names;
-use read_types::{Fault, Member, Verdict};
+use read_types::{Fault, Member};
 use rules::Kind;
+use tables::Operands;
 
 // `chain x f`, by the places of both names
 fn chain_at(text: &[u8], work: &[u8], c: Names, x: Span, f: Span) -> Member
@@ -28,32 +28,35 @@ fn chain_at(text: &[u8], work: &[u8], c: Names, x: Span, f: Span) -> Member
 }
 
 // May the chain x.f be opened as y?
-fn judge_open(text: &[u8], work: &[u8], x: Member, y: usize) -> Verdict
+fn judge_open(text: &[u8], work: &[u8], x: Member, y: usize) -> Result<(), Fault>
     requires { (length work.now ≡ work_bytes) × (x.variable ≤ frame_variables) × (y ≤ frame_variables) }
     ensures { result ≡ may_open text.now work.now x y }
 {
     if read_names::NO_VARIABLE <= y {
-        return Verdict::Bad(Fault::Undeclared);
+        return Err(Fault::Undeclared);
     }
-    let v = x.verdict;
-    if let Verdict::Bad(f) = v {
-        return Verdict::Bad(f);
-    }
+    x.verdict?;
     if !read_lookups::same_name(
         text,
         read_lookups::type_of(work, y),
         read_lookups::type_of(work, x.variable),
     ) {
-        return Verdict::Bad(Fault::WrongType);
+        return Err(Fault::WrongType);
     }
     if !crate::is_local(y) {
-        return Verdict::Bad(Fault::WrongTarget);
+        return Err(Fault::WrongTarget);
     }
     read_types::test(y != x.variable, Fault::WrongTarget)
 }
 
 // `open y x f`, the word of which ends at r
-pub fn open_row(text: &[u8], work: &[u8], c: Names, r: usize, line: usize) -> TriedRow
+pub fn open_row(
+    text: &[u8],
+    work: &[u8],
+    c: Names,
+    r: usize,
+    line: usize,
+) -> Result<Operands, Fault>
     requires { AreaFits work.now c × (r ≤ length text.now) }
     ensures { TriedAfter text.now work.now c r open_judged open_row line result }
 {
@@ -67,13 +70,21 @@ pub fn open_row(text: &[u8], work: &[u8], c: Names, r: usize, line: usize) -> Tr
 }
 
 // `shut x f`
-pub fn shut_row(text: &[u8], work: &[u8], c: Names, r: usize, line: usize) -> TriedRow
+pub fn shut_row(
+    text: &[u8],
+    work: &[u8],
+    c: Names,
+    r: usize,
+    line: usize,
+) -> Result<Operands, Fault>
     requires { AreaFits work.now c × (r ≤ length text.now) }
     ensures { TriedAfter text.now work.now c r shut_judged shut_row line result }
 {
     let a = read_declarations::span_after(text, r);
     let b = read_declarations::span_after(text, a.start + a.len);
     let x = chain_at(text, work, c, a, b);
-    let v = x.verdict;
-    crate::row_if(v, crate::row(Kind::SHUT, x.variable, 0, 0, x.number, line))
+    crate::row_if(
+        x.verdict,
+        crate::row(Kind::SHUT, x.variable, 0, 0, x.number, line),
+    )
 }

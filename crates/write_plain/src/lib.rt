@@ -16,16 +16,9 @@ ghost use Rattle.write_plain.specs.Plain.{bare, set_row, new_row, return_row, co
 
 use read_names::Span;
 use read_scopes::Names;
-use read_types::{Fault, Member, Verdict};
+use read_types::{Fault, Member};
 use rules::Kind;
 use tables::Operands;
-
-// The row of a line, or why the line is refused.
-#[derive(Clone, Copy)]
-pub enum TriedRow {
-    Row(Operands),
-    Bad(Fault),
-}
 
 // The number of the variable named at a place of the text.
 fn variable_at(text: &[u8], work: &[u8], c: Names, s: Span) -> usize
@@ -45,13 +38,13 @@ pub fn is_local(x: usize) -> bool
     x < read_names::RESULT
 }
 
-fn row_if(v: Verdict, o: Operands) -> TriedRow
+// The row, if the line is good: not a `?` in each function of a row, so that one law of the row speaks of both its exits.
+#[tactic(auto, unfolding(crate::specs::Plain::RowTried))]
+fn row_if(v: Result<(), Fault>, o: Operands) -> Result<Operands, Fault>
     ensures { RowTried v o result }
 {
-    match v {
-        Verdict::Good => TriedRow::Row(o),
-        Verdict::Bad(f) => TriedRow::Bad(f),
-    }
+    v?;
+    Ok(o)
 }
 
 fn row(kind: u8, x: usize, y: usize, z: usize, member: usize, line: usize) -> Operands
@@ -70,24 +63,20 @@ fn row(kind: u8, x: usize, y: usize, z: usize, member: usize, line: usize) -> Op
 }
 
 // May x.f be set to y?
-fn judge_set(text: &[u8], work: &[u8], x: Member, y: usize) -> Verdict
+fn judge_set(text: &[u8], work: &[u8], x: Member, y: usize) -> Result<(), Fault>
     requires { (length work.now ≡ work_bytes) × (y ≤ frame_variables) }
     ensures { result ≡ may_set text.now work.now x y }
 {
     if read_names::NO_VARIABLE <= y {
-        return Verdict::Bad(Fault::Undeclared);
+        return Err(Fault::Undeclared);
     }
-    let v = x.verdict;
-    if let Verdict::Bad(f) = v {
-        return Verdict::Bad(f);
-    }
-    let is = x.is;
-    let same = read_lookups::same_name(text, is, read_lookups::type_of(work, y));
+    x.verdict?;
+    let same = read_lookups::same_name(text, x.is, read_lookups::type_of(work, y));
     read_types::test(same, Fault::WrongType)
 }
 
 // `set x f y`, the word of which ends at r
-fn set_row(text: &[u8], work: &[u8], c: Names, r: usize, line: usize) -> TriedRow
+fn set_row(text: &[u8], work: &[u8], c: Names, r: usize, line: usize) -> Result<Operands, Fault>
     requires { AreaFits work.now c × (r ≤ length text.now) }
     ensures { TriedAfter text.now work.now c r set_judged set_row line result }
 {
@@ -107,27 +96,27 @@ fn set_row(text: &[u8], work: &[u8], c: Names, r: usize, line: usize) -> TriedRo
 }
 
 // May x hold a new object of the class that is named at s and has the number k?
-fn judge_new(text: &[u8], work: &[u8], c: Names, x: usize, k: usize, s: Span) -> Verdict
+fn judge_new(text: &[u8], work: &[u8], c: Names, x: usize, k: usize, s: Span) -> Result<(), Fault>
     requires { (length work.now ≡ work_bytes) × (x ≤ frame_variables) }
     ensures { result ≡ may_hold text.now work.now c x k s }
 {
     if read_names::NO_VARIABLE <= x {
-        return Verdict::Bad(Fault::Undeclared);
+        return Err(Fault::Undeclared);
     }
     if read_words::is_reserved(read_names::name_in(text, s)) {
-        return Verdict::Bad(Fault::Undeclared);
+        return Err(Fault::Undeclared);
     }
     if c.classes <= k {
-        return Verdict::Bad(Fault::Undeclared);
+        return Err(Fault::Undeclared);
     }
     if !read_lookups::same_name(text, read_lookups::type_of(work, x), s) {
-        return Verdict::Bad(Fault::WrongType);
+        return Err(Fault::WrongType);
     }
     read_types::test(is_local(x), Fault::WrongTarget)
 }
 
 // `new x C`
-fn new_row(text: &[u8], work: &[u8], c: Names, r: usize, line: usize) -> TriedRow
+fn new_row(text: &[u8], work: &[u8], c: Names, r: usize, line: usize) -> Result<Operands, Fault>
     requires { AreaFits work.now c × (r ≤ length text.now) }
     ensures { TriedAfter text.now work.now c r new_judged new_row line result }
 {
@@ -140,14 +129,14 @@ fn new_row(text: &[u8], work: &[u8], c: Names, r: usize, line: usize) -> TriedRo
 }
 
 // `return x`
-fn return_row(text: &[u8], work: &[u8], c: Names, r: usize, line: usize) -> TriedRow
+fn return_row(text: &[u8], work: &[u8], c: Names, r: usize, line: usize) -> Result<Operands, Fault>
     requires { AreaFits work.now c × (r ≤ length text.now) }
     ensures { TriedAfter text.now work.now c r return_judged return_row line result }
 {
     let a = read_declarations::span_after(text, r);
     let x = variable_at(text, work, c, a);
     if read_names::NO_VARIABLE <= x {
-        return TriedRow::Bad(Fault::Undeclared);
+        return Err(Fault::Undeclared);
     }
     let result = read_lookups::variable_type(text, work, c, b"result");
     let same = read_lookups::same_name(text, read_lookups::type_of(work, x), result);
@@ -156,27 +145,34 @@ fn return_row(text: &[u8], work: &[u8], c: Names, r: usize, line: usize) -> Trie
 }
 
 // May x take the sum or the difference of y and z?
-fn judge_compute(text: &[u8], work: &[u8], x: usize, y: usize, z: usize) -> Verdict
+fn judge_compute(text: &[u8], work: &[u8], x: usize, y: usize, z: usize) -> Result<(), Fault>
     requires { (length work.now ≡ work_bytes) × (x ≤ frame_variables) × (y ≤ frame_variables) × (z ≤ frame_variables) }
     ensures { result ≡ may_compute text.now work.now x y z }
 {
     if !calls::are_known(x, y, z) {
-        return Verdict::Bad(Fault::Undeclared);
+        return Err(Fault::Undeclared);
     }
     if !read_lookups::is_int(text, read_lookups::type_of(work, x)) {
-        return Verdict::Bad(Fault::WrongType);
+        return Err(Fault::WrongType);
     }
     if !read_lookups::is_int(text, read_lookups::type_of(work, y)) {
-        return Verdict::Bad(Fault::WrongType);
+        return Err(Fault::WrongType);
     }
     if !read_lookups::is_int(text, read_lookups::type_of(work, z)) {
-        return Verdict::Bad(Fault::WrongType);
+        return Err(Fault::WrongType);
     }
     read_types::test(is_local(x), Fault::WrongTarget)
 }
 
 // `add x y z` and `sub x y z`
-fn compute_row(text: &[u8], work: &[u8], c: Names, kind: u8, r: usize, line: usize) -> TriedRow
+fn compute_row(
+    text: &[u8],
+    work: &[u8],
+    c: Names,
+    kind: u8,
+    r: usize,
+    line: usize,
+) -> Result<Operands, Fault>
     requires { AreaFits work.now c × (r ≤ length text.now) }
     ensures { TriedAfter text.now work.now c r compute_judged (λ Γ vs ws l. compute_row Γ vs ws l kind) line result }
 {
@@ -191,7 +187,14 @@ fn compute_row(text: &[u8], work: &[u8], c: Names, kind: u8, r: usize, line: usi
 }
 
 // The row of a line of this kind; `else`, `end` and `again` have no operands.
-pub fn plain_row(text: &[u8], work: &[u8], c: Names, kind: u8, r: usize, line: usize) -> TriedRow
+pub fn plain_row(
+    text: &[u8],
+    work: &[u8],
+    c: Names,
+    kind: u8,
+    r: usize,
+    line: usize,
+) -> Result<Operands, Fault>
     requires { AreaFits work.now c × (r ≤ length text.now) }
     ensures { TriedAfter text.now work.now c r (λ Γ vs ws. plain_judged Γ vs ws kind) (λ Γ vs ws l. plain_row Γ vs ws l kind) line result }
 {
@@ -204,7 +207,7 @@ pub fn plain_row(text: &[u8], work: &[u8], c: Names, kind: u8, r: usize, line: u
         Kind::SUB => compute_row(text, work, c, Kind::SUB, r, line),
         Kind::OPEN => chains::open_row(text, work, c, r, line),
         Kind::SHUT => chains::shut_row(text, work, c, r, line),
-        _ => row_if(Verdict::Good, row(kind, 0, 0, 0, 0, line)),
+        _ => row_if(Ok(()), row(kind, 0, 0, 0, 0, line)),
     }
 }
 
@@ -217,16 +220,11 @@ pub fn put_plain(
     r: usize,
     i: usize,
     line: usize,
-) -> Verdict
+) -> Result<(), Fault>
     requires { AreaFits work.old c × PlainFollows text.now kind r × (i < most_statements) × (line < half_values) }
     ensures { PlainTried text.now work.old c kind r i line work.new result }
 {
-    let t = plain_row(text, work, c, kind, r, line);
-    match t {
-        TriedRow::Bad(f) => Verdict::Bad(f),
-        TriedRow::Row(o) => {
-            write_rows::put_row(work, i, o);
-            Verdict::Good
-        }
-    }
+    let o = plain_row(text, work, c, kind, r, line)?;
+    write_rows::put_row(work, i, o);
+    Ok(())
 }

@@ -1,7 +1,7 @@
 // The final rows written: atoms, statements, methods, classes, header.
 #![tactic(auto)]
 
-ghost use Rattle.std.specs.Prelude.{◌≡◌, cond, [], ◌∷◌, ◌+◌, ◌*◌, ◌≤◌, ◌<◌, length};
+ghost use Rattle.std.specs.Prelude.{◌≡◌, [], ◌∷◌, ◌+◌, ◌*◌, ◌≤◌, ◌<◌, length};
 ghost use Rattle.rules.specs.Limits.{most_statements, most_methods, most_classes, most_fields, work_bytes};
 ghost use Rattle.tables.specs.Numbers.{byte_values, half_values};
 ghost use Rattle.tables.specs.Layout.{most_atom_rows, most_names};
@@ -113,7 +113,8 @@ pub fn put_method_row(work: &mut [u8], m: usize, first: usize)
     );
 }
 
-// The requires of the method m is n atoms from a on.
+// The requires of the method m is n atoms from a on. As `put_ensures`, which has the two at other places: one function for both would take
+// the places, and be no shorter.
 pub fn put_requires(work: &mut [u8], m: usize, a: usize, n: usize)
     requires { ((length work.old ≡ work_bytes) × (m < most_methods)) × ((a < half_values) × (n < byte_values)) }
     ensures { work.new ≡ put_requires work.old m a n }
@@ -142,10 +143,8 @@ fn fill(work: &mut [u8], at: usize, n: usize)
     requires { at + n ≤ length work.old }
     ensures { work.new ≡ put_bytes work.old at (blank n) }
 {
-    let mut i = 0;
-    while i < n {
+    for i in 0..n {
         work[at + i] = BLANK;
-        i += 1;
     }
 }
 
@@ -162,12 +161,6 @@ pub fn put_class_row(work: &mut [u8], c: usize)
     );
 }
 
-fn flag(int: bool) -> usize
-    ensures { (result ≡ cond int 1 0) × (result < byte_values) }
-{
-    if int { 1 } else { 0 }
-}
-
 // One more field of the class c: the number of its name, and whether it is an int.
 pub fn put_class_field(work: &mut [u8], c: usize, name: usize, int: bool)
     requires { ((length work.old ≡ work_bytes) × (c < most_classes)) × ((name < most_names) × (field_count_at work.old c < most_fields)) }
@@ -180,7 +173,7 @@ pub fn put_class_field(work: &mut [u8], c: usize, name: usize, int: bool)
     tables::put_byte(
         work,
         at + ClassAt::KIND + j * ClassAt::FIELD_BYTES,
-        flag(int),
+        usize::from(int),
     );
     tables::put_byte(work, Layout::PLACES + c * Layout::FIELD_NAMES + name, j);
 }

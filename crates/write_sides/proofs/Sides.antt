@@ -1,4 +1,5 @@
 -- `let` and `if`: the atom and the row fit, and mean the line's statement.
+use Rattle.std.proofs.Common.{Result, Ok, Err}
 use mathlib.Core.Path.{◌≡◌, refl, sym, ap, subst, ◌∙◌}
 use mathlib.Core.Bool.{Bool, true, false, cond, ◌&&◌}
 use mathlib.Core.List.{List, [], ◌∷◌}
@@ -39,26 +40,23 @@ use Rattle.read_names.specs.Rows.{name_in}
 use Rattle.read_scopes.specs.Meanings.{AreaFits, declarations_in, variables_in}
 use Rattle.read_lookups.specs.LookUps.{Looked}
 use Rattle.read_types.specs.declared.Fault.{Fault}
-use Rattle.read_types.specs.declared.Verdict.{Verdict}
-use Rattle.read_types.specs.Verdicts.{test, judged, and_then}
+use Rattle.read_types.specs.Verdicts.{Verdict, test, judged, and_then}
 use Rattle.read_types.specs.Types.{expr_judged, LookIs}
 use Rattle.read_types.proofs.Verdicts.{lower_last, then-good, test_good}
 use Rattle.rules.specs.Syntax.{Program}
 use Rattle.rules.specs.Reading.{with_item}
-use Rattle.write_rows.specs.Puts.{put_atom, put_row, RowBytes}
+use Rattle.write_rows.specs.Puts.{put_atom, put_row}
 use Rattle.tables.specs.Tables.{SideFits, Declared, OperandsFit}
 use Rattle.write_rows.specs.Holds as Holds
 use Rattle.write_rows.specs.Holds.{AtomOk, access_of, Holds}
 use Rattle.write_rows.proofs.Atoms.{atom-names, atom-length}
-use Rattle.write_rows.proofs.Rows.{no_field, row_bytes, row-names, row-length}
+use Rattle.write_rows.proofs.Rows.{no_field, row-names, row-length}
 use Rattle.write_rows.proofs.Statements.{let-written, if-written}
 use Rattle.read_declarations.specs.Texts.{SpanAfter}
 use Rattle.read_declarations.specs.Declares.{line_with}
 use Rattle.read_declarations.proofs.Lines.{second, third}
 use Rattle.resolve_pass.specs.Passes.{line_judged}
 use Rattle.resolve_atoms.specs.declared.AtomRow.{AtomRow}
-use Rattle.resolve_atoms.specs.declared.TriedAtom.{TriedAtom}
-use Rattle.resolve_atoms.specs.declared.Put.{Put}
 use Rattle.resolve_atoms.specs.Good.{atom_judged, atoms_judged}
 use Rattle.resolve_atoms.specs.Written.{Resolved, AtomTried}
 use Rattle.resolve_atoms.proofs.Sides.{variable-small, compared_is}
@@ -108,7 +106,7 @@ module _ (Γ : Declarations) (vs : List Variable) (s : Scope) where
   let-shuffle :
       (x k o a l : Bool) →
       judged (x && (k && true)) ((o && true) && (a && true)) ((l && true) && true)
-      ≡ test x Fault.Undeclared (and_then (judged k o true) (test a Fault.WrongType (test l Fault.WrongTarget Verdict.Good)))
+      ≡ test x Fault.Undeclared (and_then (judged k o true) (test a Fault.WrongType (test l Fault.WrongTarget (Ok tt))))
   unfolding judged test and_then
   let-shuffle false k o a l = refl
   let-shuffle true false o a l = refl
@@ -158,12 +156,6 @@ one_ok D k x n l o s =
       one_atom = λ e. refl;
       condition = λ e. absurd (omega (arith, b));
     }
-
-pub one-bytes :
-    (k x n l : ℕ) → (k ≡ 9) ⊎ (k ≡ 15) → x < frame_variables → n < most_atom_rows → l < 65536 → RowBytes (one_row k x n l)
-one-bytes k x n l o s room line =
-    let D : Declared = record { classes = 0; methods = 0 } in
-    row_bytes D (n + 1) (one_row k x n l) (omega arith) (omega arith) line (one_ok D k x n l o s)
 
 -- the condition of an atom that is compared
 condition : Atom ℕ → Stmt
@@ -240,14 +232,14 @@ module _ (t w : List ℕ) (c : Counts.Names) (r i n l : ℕ) (ready : AreaFits w
           ∙ (λ j.
           test (sym X.known j) Fault.Undeclared
           (and_then (E.verdict j)
-          (test (agree (some (sym X.type j)) (E.is j)) Fault.WrongType (test (is_local (X.number j)) Fault.WrongTarget Verdict.Good))))
+          (test (agree (some (sym X.type j)) (E.is j)) Fault.WrongType (test (is_local (X.number j)) Fault.WrongTarget (Ok tt)))))
 
-      pub let-bad : {f : Fault} → g ≡ Verdict.Bad f → SideTried Let t w c r i n l w (Put.Bad f)
+      pub let-bad : {f : Fault} → g ≡ Err f → SideTried Let t w c r i n l w (Err f)
       unfolding SideTried
       let-bad f = (λ s. let-judged Γ vs s ws y.formed ∙ (sym let-is ∙ f), refl)
 
-      module _ (fits : g ≡ Verdict.Good) where
-        let-known : (in_scope vs (get_or ws 0 []) ≡ true) × (expr_judged Γ vs (expr_of (get_or ws 1 [])) ≡ Verdict.Good)
+      module _ (fits : g ≡ Ok tt) where
+        let-known : (in_scope vs (get_or ws 0 []) ≡ true) × (expr_judged Γ vs (expr_of (get_or ws 1 [])) ≡ Ok tt)
         unfolding let_judged
         let-known =
             let k = test_good (in_scope vs (get_or ws 0 [])) Fault.Undeclared _ (sym let-is ∙ fits) in
@@ -282,7 +274,7 @@ module _ (t w : List ℕ) (c : Counts.Names) (r i n l : ℕ) (ready : AreaFits w
 
         pub let-done :
             {q z : List ℕ} → q ≡ put_atom w n eq_atom Tables.Expr.Null e.expr → z ≡ put_row q i (one_row 9 x n l) →
-            SideTried Let t w c r i n l z (Put.Done (n + 1))
+            SideTried Let t w c r i n l z (Ok (n + 1))
         unfolding SideTried
         let-done d f = (λ s. let-judged Γ vs s ws y.formed ∙ (sym let-is ∙ fits), let-put d f)
 
@@ -328,14 +320,14 @@ module _ (t w : List ℕ) (c : Counts.Names) (r i n l : ℕ) (ready : AreaFits w
       atom-is : atom_of u x z ≡ atom
       atom-is j = atom_of ((eu ∙ p.name) j) ((ex ∙ second p p2) j) ((ez ∙ third p p2 p3) j)
 
-      pub if-bad : (q : TriedAtom) {f : Fault} → q ≡ TriedAtom.Bad f → AtomTried Γ vs (atom_of u x z) q → SideTried If t w c r i n l w (Put.Bad f)
+      pub if-bad : (q : Result AtomRow Fault) {f : Fault} → q ≡ Err f → AtomTried Γ vs (atom_of u x z) q → SideTried If t w c r i n l w (Err f)
       unfolding SideTried AtomTried
       if-bad q {f} e h =
-          let g : atom_judged Γ vs (atom_of u x z) ≡ Verdict.Bad f = subst (AtomTried Γ vs (atom_of u x z)) e h in
+          let g : atom_judged Γ vs (atom_of u x z) ≡ Err f = subst (AtomTried Γ vs (atom_of u x z)) e h in
           (λ s. if-judged Γ vs s ws y.formed ∙ (ap (atom_judged Γ vs) (sym atom-is) ∙ g), refl)
 
-      module _ (q : TriedAtom) (s : AtomRow) (e : q ≡ TriedAtom.Row s) (h : AtomTried Γ vs (atom_of u x z) q) where
-        if-row : (atom_judged Γ vs (atom_of u x z) ≡ Verdict.Good) × Resolved Γ vs (atom_of u x z) s
+      module _ (q : Result AtomRow Fault) (s : AtomRow) (e : q ≡ Ok s) (h : AtomTried Γ vs (atom_of u x z) q) where
+        if-row : (atom_judged Γ vs (atom_of u x z) ≡ Ok tt) × Resolved Γ vs (atom_of u x z) s
         unfolding AtomTried
         if-row = subst (AtomTried Γ vs (atom_of u x z)) e h
 
@@ -344,7 +336,7 @@ module _ (t w : List ℕ) (c : Counts.Names) (r i n l : ℕ) (ready : AreaFits w
 
         pub if-done :
             {f v : List ℕ} → f ≡ put_atom w n s.kind s.left s.right → v ≡ put_row f i (one_row 15 0 n l) →
-            SideTried If t w c r i n l v (Put.Done (n + 1))
+            SideTried If t w c r i n l v (Ok (n + 1))
         unfolding SideTried
         if-done k m = (
           λ s. if-judged Γ vs s ws y.formed ∙ (ap (atom_judged Γ vs) (sym atom-is) ∙ if-row.0),

@@ -1,5 +1,5 @@
 -- Rows of the statements that have one atom: `let` and `if`.
-use Rattle.std.specs.Prelude.{◌≡◌, List, [], ℕ, ◌+◌, ◌≤◌, ◌<◌, ltb, length, get_or, drop}
+use Rattle.std.specs.Prelude.{Result, Ok, Err, ◌≡◌, List, [], ℕ, ◌+◌, ◌≤◌, ◌<◌, ltb, length, get_or, drop}
 use Rattle.std.proofs.Math.Option.{some}
 use Rattle.rules.specs.Limits.{work_bytes}
 use Rattle.rules.specs.Base.{Name}
@@ -17,8 +17,7 @@ use Rattle.read_names.specs.Rows.{name_in}
 use Rattle.read_lookups.specs.LookUps.{type_of}
 use Rattle.read_types.specs.declared.Lookup.{Lookup}
 use Rattle.read_types.specs.declared.Fault.{Fault}
-use Rattle.read_types.specs.declared.Verdict.{Verdict}
-use Rattle.read_types.specs.Verdicts.{test, and_then}
+use Rattle.read_types.specs.Verdicts.{Verdict, test, and_then}
 use Rattle.read_types.specs.Types.{expr_judged, type_meant}
 use Rattle.rules.specs.Syntax.{Program}
 use Rattle.rules.specs.Reading.{with_item}
@@ -27,7 +26,6 @@ use Rattle.tables.specs.Tables.{Declared}
 use Rattle.write_rows.specs.Holds.{Holds}
 use Rattle.read_declarations.specs.Declares.{line_with, FormedAfter}
 use Rattle.resolve_pass.specs.Passes.{line_judged}
-use Rattle.resolve_atoms.specs.declared.Put.{Put}
 
 -- a row with the variable x and the atom n, of this line
 abbrev pub one_row : ℕ → ℕ → ℕ → ℕ → Operands
@@ -40,14 +38,14 @@ let_judged Γ vs ws =
     test (in_scope vs x) Fault.Undeclared
     (and_then (expr_judged Γ vs (expr_of (get_or ws 1 [])))
     (test (agree (some (variable_type vs x)) (expr_type Γ vs (expr_of (get_or ws 1 [])))) Fault.WrongType
-    (test (is_local (variable_number vs x)) Fault.WrongTarget Verdict.Good)))
+    (test (is_local (variable_number vs x)) Fault.WrongTarget (Ok tt))))
 
 -- by what was looked up
 abbrev pub may_let : List ℕ → List ℕ → ℕ → Lookup → Verdict
 may_let t w x e =
     test (ltb x frame_variables) Fault.Undeclared
     (and_then e.verdict
-    (test (agree (some (name_in t (type_of w x))) (type_meant t e.is)) Fault.WrongType (test (is_local x) Fault.WrongTarget Verdict.Good)))
+    (test (agree (some (name_in t (type_of w x))) (type_meant t e.is)) Fault.WrongType (test (is_local x) Fault.WrongTarget (Ok tt))))
 
 -- the statement whose word ends at r has its form, and there is room for the atom n
 pub record SideFollows (a : Statement) (t : List ℕ) (r n : ℕ) : Type 0 where
@@ -66,10 +64,10 @@ module _ (a : Statement) (t w : List ℕ) (c : Names) (r : ℕ) where
     pub size : length w' ≡ length w
 
   -- it is written just if it is good, whatever the scope
-  unfoldable pub SideTried : (i n l : ℕ) (w' : List ℕ) → Put → Type 0
-  SideTried i n l w' (Put.Done m) =
-      ((s : Scope) → line_judged (declarations_in t w c) (variables_in t w c) s (line_with (statement a) (more (drop r t))) ≡ Verdict.Good)
+  unfoldable pub SideTried : (i n l : ℕ) (w' : List ℕ) → Result ℕ Fault → Type 0
+  SideTried i n l w' (Ok m) =
+      ((s : Scope) → line_judged (declarations_in t w c) (variables_in t w c) s (line_with (statement a) (more (drop r t))) ≡ Ok tt)
       × SidePut i n l w' m
-  SideTried i n l w' (Put.Bad f) =
-      ((s : Scope) → line_judged (declarations_in t w c) (variables_in t w c) s (line_with (statement a) (more (drop r t))) ≡ Verdict.Bad f)
+  SideTried i n l w' (Err f) =
+      ((s : Scope) → line_judged (declarations_in t w c) (variables_in t w c) s (line_with (statement a) (more (drop r t))) ≡ Err f)
       × (length w' ≡ length w)

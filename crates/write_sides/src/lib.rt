@@ -10,8 +10,7 @@ ghost use Rattle.read_scopes.specs.Meanings.{AreaFits};
 ghost use Rattle.write_sides.specs.Sides.{one_row, may_let, SideFollows, SideTried};
 
 use read_scopes::Names;
-use read_types::{ExprType, Fault, Lookup, Verdict};
-use resolve_atoms::{Put, TriedAtom};
+use read_types::{ExprType, Fault, Lookup};
 use rules::Kind;
 use tables::{AtomKind, Expr, Operands};
 
@@ -31,21 +30,17 @@ fn row(kind: u8, x: usize, n: usize, line: usize) -> Operands
 }
 
 // May e be assigned to x?
-fn judge_let(text: &[u8], work: &[u8], x: usize, e: Lookup) -> Verdict
+fn judge_let(text: &[u8], work: &[u8], x: usize, e: Lookup) -> Result<(), Fault>
     requires { (length work.now ≡ work_bytes) × (x ≤ frame_variables) }
     ensures { result ≡ may_let text.now work.now x e }
 {
     if read_names::NO_VARIABLE <= x {
-        return Verdict::Bad(Fault::Undeclared);
+        return Err(Fault::Undeclared);
     }
-    let v = e.verdict;
-    if let Verdict::Bad(f) = v {
-        return Verdict::Bad(f);
-    }
+    e.verdict?;
     let s = read_lookups::type_of(work, x);
-    let is = e.is;
-    if !read_types::agree(text, ExprType::Named(s), is) {
-        return Verdict::Bad(Fault::WrongType);
+    if !read_types::agree(text, ExprType::Named(s), e.is) {
+        return Err(Fault::WrongType);
     }
     read_types::test(write_plain::is_local(x), Fault::WrongTarget)
 }
@@ -60,7 +55,7 @@ pub fn put_let(
     i: usize,
     n: usize,
     line: usize,
-) -> Put
+) -> Result<usize, Fault>
     requires { AreaFits work.old c × SideFollows Let text.now r n × (i < most_statements) × (line < half_values) }
     ensures { SideTried Let text.now work.old c r i n line work.new result }
 {
@@ -68,15 +63,10 @@ pub fn put_let(
     let b = read_declarations::span_after(text, a.start + a.len);
     let x = read_lookups::variable(text, work, c, read_names::name_in(text, a));
     let l = read_types::look(text, work, c, read_names::name_in(text, b));
-    let v = judge_let(text, work, x, l);
-    if let Verdict::Bad(f) = v {
-        return Put::Bad(f);
-    }
-    let e = l.expr;
-    let o = row(Kind::LET, x, n, line);
-    write_rows::put_atom(work, n, AtomKind::EQ, Expr::Null, e);
-    write_rows::put_row(work, i, o);
-    Put::Done(n + 1)
+    judge_let(text, work, x, l)?;
+    write_rows::put_atom(work, n, AtomKind::EQ, Expr::Null, l.expr);
+    write_rows::put_row(work, i, row(Kind::LET, x, n, line));
+    Ok(n + 1)
 }
 
 // Tries `if eq e e` or `if ne e e`: if it is good, its condition is written as the atom n, and the statement as the row i.
@@ -88,7 +78,7 @@ pub fn put_if(
     i: usize,
     n: usize,
     line: usize,
-) -> Put
+) -> Result<usize, Fault>
     requires { AreaFits work.old c × SideFollows If text.now r n × (i < most_statements) × (line < half_values) }
     ensures { SideTried If text.now work.old c r i n line work.new result }
 {
@@ -99,16 +89,8 @@ pub fn put_if(
     let x = read_names::name_in(text, b);
     let y = read_names::name_in(text, d);
     let kind = read_atoms::begun_by(read_bytes::byte_at(word, 0));
-    let q = resolve_atoms::resolve_atom(text, work, c, kind, x, y);
-    match q {
-        TriedAtom::Bad(f) => Put::Bad(f),
-        TriedAtom::Row(s) => {
-            let left = s.left;
-            let right = s.right;
-            let o = row(Kind::IF, 0, n, line);
-            write_rows::put_atom(work, n, s.kind, left, right);
-            write_rows::put_row(work, i, o);
-            Put::Done(n + 1)
-        }
-    }
+    let s = resolve_atoms::resolve_atom(text, work, c, kind, x, y)?;
+    write_rows::put_atom(work, n, s.kind, s.left, s.right);
+    write_rows::put_row(work, i, row(Kind::IF, 0, n, line));
+    Ok(n + 1)
 }

@@ -1,5 +1,4 @@
 use Rattle.read_bytes.proofs.Bytes.{letter-small, letter-capital}
-use Rattle.rules.specs.Base.{between}
 use mathlib.Core.Path.{sym, ◌∙◌}
 use Rattle.read_bytes.proofs.is_letter.Goals as goal
 

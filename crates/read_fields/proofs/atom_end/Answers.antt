@@ -1,20 +1,12 @@
 use mathlib.Core.Path.{subst}
-use Rattle.read_fields.specs.Spans.{OperandsRead}
-use Rattle.read_fields.proofs.Heads.{atom-none, atom-some, atom-bad}
+use Rattle.read_fields.specs.Spans.{AtomHead}
+use Rattle.read_fields.proofs.Heads.{atom-by}
 use Rattle.read_fields.proofs.atom_end.Goals as goal
 
-pub returns-then-h-eq0 : goal.returns-then-h-eq0
-returns-then-h-eq0 c = atom-none (c.atom_head-h.ensures.none c.if-h-eq0.true)
+pub operands_end-requires : goal.operands_end-requires
+operands_end-requires c = (subst (AtomHead c.args.t.now c.args.r) c.in_ok-h.was c.atom_head.ensures).1.1.high
 
-pub operands_end-f-requires : goal.operands_end-f-requires
-operands_end-f-requires c = (c.atom_head-h.ensures.some c.if-h-eq0.false).1.high
-
-pub returns-in-Upto : goal.returns-in-Upto
-returns-in-Upto c =
-    let x = c.atom_head-h.ensures.some c.if-h-eq0.false in
-    atom-some x.1 c.if-h-eq0.false _ (subst (OperandsRead x.0 _ _) c.in-Upto.is (c.operands_end-f.ensures x.0 x.1.number))
-
-pub returns-in-Bad : goal.returns-in-Bad
-returns-in-Bad c =
-    let x = c.atom_head-h.ensures.some c.if-h-eq0.false in
-    atom-bad x.1 (subst (OperandsRead x.0 _ _) c.in-Bad.is (c.operands_end-f.ensures x.0 x.1.number))
+pub returns : goal.returns
+returns c =
+    let x = subst (AtomHead c.args.t.now c.args.r) c.in_ok-h.was c.atom_head.ensures in
+    atom-by x.1.1 x.0 _ (c.operands_end.ensures x.1.0 x.1.1.number)

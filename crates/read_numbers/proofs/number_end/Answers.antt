@@ -6,11 +6,6 @@ use mathlib.Core.Path.{refl, sym, ◌∙◌}
 use native.Mathlib.Omega.{arith}
 use Rattle.read_numbers.proofs.number_end.Goals as goal
 
-pub overflow_add-from : goal.overflow_add-from
-overflow_add-from c =
-    let h = sign-within c.args.l.now c.args.at c.minuses_at-minuses.result c.requires c.minuses_at-minuses.ensures in
-    omega (arith, h)
-
 pub digits_from-d-requires : goal.digits_from-d-requires
 digits_from-d-requires c =
     sign-within c.args.l.now c.args.at c.minuses_at-minuses.result c.requires c.minuses_at-minuses.ensures
@@ -24,12 +19,12 @@ pub returns-then-is_written : goal.returns-then-is_written
 returns-then-is_written c =
     let h = sign-within c.args.l.now c.args.at c.minuses_at-minuses.result c.requires c.minuses_at-minuses.ensures in
     let z = sym c.is_written.ensures ∙ c.if-is_written.true in
-    field-passes is_number c.args.l.now c.args.at c.requires c.digits_from-d.result.end
+    field-passes is_number c.args.l.now c.args.at c.digits_from-d.result.end
     (sym (written c.args.l.now c.args.at c.minuses_at-minuses.result _ c.digits_from-d.result.value c.digits_from-d.result.end h c.minuses_at-minuses.ensures refl c.digits_from-d.ensures) ∙ z)
     (written-end c.args.l.now c.args.at c.minuses_at-minuses.result _ c.digits_from-d.result.value c.digits_from-d.result.end h c.minuses_at-minuses.ensures refl c.digits_from-d.ensures z)
 
 pub returns-else-is_written : goal.returns-else-is_written
 returns-else-is_written c =
     let h = sign-within c.args.l.now c.args.at c.minuses_at-minuses.result c.requires c.minuses_at-minuses.ensures in
-    field-fails is_number c.args.l.now c.args.at c.requires
+    field-fails is_number c.args.l.now c.args.at
     (sym (written c.args.l.now c.args.at c.minuses_at-minuses.result _ c.digits_from-d.result.value c.digits_from-d.result.end h c.minuses_at-minuses.ensures refl c.digits_from-d.ensures) ∙ (sym c.is_written.ensures ∙ c.if-is_written.false))

@@ -22,35 +22,35 @@ scan_line-a-requires c =
 pub overflow_add-n : goal.overflow_add-n
 overflow_add-n c = omega (arith, c.loop-at.invariant.0, c.loop-at.invariant.2.short)
 
-pub shape_of-work-in-Refused : goal.shape_of-work-in-Refused
-shape_of-work-in-Refused c = c.scan_line-a.ensures.1.size ∙ c.loop-at.invariant.3
+pub shape_of-work-in-Err : goal.shape_of-work-in-Err
+shape_of-work-in-Err c = c.scan_line-a.ensures.1.size ∙ c.loop-at.invariant.3
 
-pub returns-in-Refused : goal.returns-in-Refused
-returns-in-Refused c = (
-  pass-stop c.loop-at.invariant.1 c.in-Refused.why c.loop-at-test.true
-      (ap line_answer (sym c.in-Refused.is) ∙ c.scan_line-a.ensures.0.is c.loop-at.invariant.1.place c.loop-at.invariant.1.is),
+pub returns-in-Err : goal.returns-in-Err
+returns-in-Err c = (
+  pass-stop c.loop-at.invariant.1 c.in-Err.why c.loop-at-test.true
+      (ap line_answer (sym c.in-Err.is) ∙ c.scan_line-a.ensures.0.is c.loop-at.invariant.1.place c.loop-at.invariant.1.is),
   tt,
   c.scan_line-a.ensures.1.size ∙ c.loop-at.invariant.3,
 )
 
 pub overflow_add-at : goal.overflow_add-at
 overflow_add-at c =
-    let f = taken-ends c.scan_line-a.ensures.0 c.in-Next.is in
-    omega (arith, byte-in c.args.text.now c.in-Next.end 10 (omega arith) f.1)
+    let f = taken-ends c.scan_line-a.ensures.0 c.in-Ok.is in
+    omega (arith, byte-in c.args.text.now c.in-Ok.next.feed 10 (omega arith) f.1)
 
 pub loop-at-smaller : goal.loop-at-smaller
 loop-at-smaller c =
-    let f = taken-ends c.scan_line-a.ensures.0 c.in-Next.is in
-    omega (arith, byte-in c.args.text.now c.in-Next.end 10 (omega arith) f.1, f.0.low)
+    let f = taken-ends c.scan_line-a.ensures.0 c.in-Ok.is in
+    omega (arith, byte-in c.args.text.now c.in-Ok.next.feed 10 (omega arith) f.1, f.0.low)
 
 pub loop-at-preserved : goal.loop-at-preserved
 loop-at-preserved c =
-    let f = taken-ends c.scan_line-a.ensures.0 c.in-Next.is in
-    let l = clean_line c.args.text.now c.loop-at.at c.in-Next.end f.0 f.1 in (
+    let f = taken-ends c.scan_line-a.ensures.0 c.in-Ok.is in
+    let l = clean_line c.args.text.now c.loop-at.at c.in-Ok.next.feed f.0 f.1 in (
       omega (arith, l.high),
-      pass_on c.loop-at.invariant.1 c.in-Next.end c.in-Next.q l
-          (ap line_answer (sym c.in-Next.is) ∙ c.scan_line-a.ensures.0.is c.loop-at.invariant.1.place c.loop-at.invariant.1.is),
-      tabled-on c.loop-at.invariant.2 c.loop-at-test.true f.0 (taken-noted c.scan_line-a.ensures.1 c.in-Next.is),
+      pass_on c.loop-at.invariant.1 c.in-Ok.next.feed c.in-Ok.next.place l
+          (ap line_answer (sym c.in-Ok.is) ∙ c.scan_line-a.ensures.0.is c.loop-at.invariant.1.place c.loop-at.invariant.1.is),
+      tabled-on c.loop-at.invariant.2 c.loop-at-test.true f.0 (taken-noted c.scan_line-a.ensures.1 c.in-Ok.is),
       c.scan_line-a.ensures.1.size ∙ c.loop-at.invariant.3,
     )
 

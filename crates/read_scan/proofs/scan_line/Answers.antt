@@ -1,36 +1,35 @@
 use native.Mathlib.Omega.{arith}
-use mathlib.Core.Path.{refl, sym, ap, subst, ◌∙◌}
+use mathlib.Core.Path.{refl, sym, ap, ◌∙◌}
 use lib.ListN.{length}
-use Rattle.read_fields.specs.Spans.{FieldsRead, formed_as}
 use Rattle.read_scan.specs.Table.{Noted}
 use Rattle.read_scan.proofs.Formed.{kind-most, unformed-line, has-kind, kind-in, formed-first, formed-end, when-at, refuses-byte, refuses-line, places-line}
 use Rattle.read_scan.proofs.Table.{line-length, line-noted}
 use Rattle.read_scan.proofs.scan_line.Goals as goal
 
-pub line_fields-f-requires : goal.line_fields-f-requires
-line_fields-f-requires c = (c.first_word-w.ensures.end.high, kind-most c.first_word-w.ensures)
+pub line_fields-requires : goal.line_fields-requires
+line_fields-requires c = (c.first_word-w.ensures.end.high, kind-most c.first_word-w.ensures)
 
 pub refused_line-requires : goal.refused_line-requires
 refused_line-requires c =
-    (c.requires.0, unformed-line c.first_word-w.ensures (subst (FieldsRead (formed_as c.first_word-w.result.kind) c.args.t.now c.first_word-w.result.end) c.in-Bad.is c.line_fields-f.ensures))
+    (c.requires.0, unformed-line c.first_word-w.ensures c.in_default.ensures)
 
 pub returns-then-byte_at-ne-LINE_FEED : goal.returns-then-byte_at-ne-LINE_FEED
 returns-then-byte_at-ne-LINE_FEED c =
-    let f = subst (FieldsRead (formed_as c.first_word-w.result.kind) c.args.t.now c.first_word-w.result.end) c.in-Upto.is c.line_fields-f.ensures in (
+    let f = c.in-Some.ensures in (
       refuses-line (refuses-byte (formed-end c.first_word-w.ensures f) c.requires.0 (λ e. c.if-byte_at-ne-LINE_FEED.true (c.byte_at.ensures ∙ e))),
       record { size = refl; noted = tt },
     )
 
 pub placed_line-requires : goal.placed_line-requires
 placed_line-requires c =
-    let f = subst (FieldsRead (formed_as c.first_word-w.result.kind) c.args.t.now c.first_word-w.result.end) c.in-Upto.is c.line_fields-f.ensures in (kind-in c.first_word-w.ensures f, c.requires.1)
+    let f = c.in-Some.ensures in (kind-in c.first_word-w.ensures f, c.requires.1)
 
-pub returns-in-Bad : goal.returns-in-Bad
-returns-in-Bad c = (refuses-line c.refused_line.ensures, record { size = refl; noted = tt })
+pub returns-in_default : goal.returns-in_default
+returns-in_default c = (refuses-line c.refused_line.ensures, record { size = refl; noted = tt })
 
-pub returns-else-byte_at-ne-LINE_FEED : goal.returns-else-byte_at-ne-LINE_FEED
-returns-else-byte_at-ne-LINE_FEED c =
-    let f = subst (FieldsRead (formed_as c.first_word-w.result.kind) c.args.t.now c.first_word-w.result.end) c.in-Upto.is c.line_fields-f.ensures in
+pub returns : goal.returns
+returns c =
+    let f = c.in-Some.ensures in
     let g = sym c.byte_at.ensures ∙ c.if-byte_at-ne-LINE_FEED.false in
     let d = formed-end c.first_word-w.ensures f in
     let k = has-kind c.first_word-w.ensures f in

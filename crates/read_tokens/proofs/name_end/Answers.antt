@@ -8,11 +8,11 @@ use Rattle.read_tokens.proofs.name_end.Goals as goal
 pub returns-then-not-is_letter : goal.returns-then-not-is_letter
 returns-then-not-is_letter c =
     let e = ap letter (sym c.byte_at.ensures) ∙ (sym c.is_letter.ensures ∙ c.if-not-is_letter.true) in
-    field-fails is_name c.args.l.now c.args.at c.requires (no-letter-at c.args.l.now c.args.at c.requires e)
+    field-fails is_name c.args.l.now c.args.at (no-letter-at c.args.l.now c.args.at c.requires e)
 
 pub returns-then-e-at-gt-NAME_BYTES : goal.returns-then-e-at-gt-NAME_BYTES
 returns-then-e-at-gt-NAME_BYTES c =
-    field-fails is_name c.args.l.now c.args.at c.requires (not-begun c.args.l.now c.args.at c.name_stop-e.result c.requires c.name_stop-e.ensures.is (rw (lt-leb _ 12 c.if-e-at-gt-NAME_BYTES.true)))
+    field-fails is_name c.args.l.now c.args.at (not-begun c.args.l.now c.args.at c.name_stop-e.result c.requires c.name_stop-e.ensures.is (rw (lt-leb _ 12 c.if-e-at-gt-NAME_BYTES.true)))
 
 pub returns-then-ends_field : goal.returns-then-ends_field
 returns-then-ends_field c =
@@ -22,4 +22,4 @@ returns-then-ends_field c =
 
 pub returns-else-ends_field : goal.returns-else-ends_field
 returns-else-ends_field c =
-    field-fails is_name c.args.l.now c.args.at c.requires (no-name-at c.args.l.now c.args.at c.name_stop-e.result c.requires c.name_stop-e.ensures.is (sym c.ends_field.ensures ∙ c.if-ends_field.false))
+    field-fails is_name c.args.l.now c.args.at (no-name-at c.args.l.now c.args.at c.name_stop-e.result c.requires c.name_stop-e.ensures.is (sym c.ends_field.ensures ∙ c.if-ends_field.false))

@@ -1,27 +1,21 @@
+use Rattle.std.proofs.Common.{◌≡◌, ◌∙◌, refl}
+use Rattle.std.specs.Ordering.{ord_min}
+use Rattle.read_types.specs.contracts.FaultOrd.TheImpl as FaultOrd
+use Rattle.read_types.specs.declared.Fault.{Fault}
 use Rattle.read_types.specs.Verdicts.{lower_fault}
 use Rattle.read_types.proofs.lower_fault.Goals as goal
 
-pub returns-in-Undeclared : goal.returns-in-Undeclared
+least : (f g : Fault) → ord_min FaultOrd.cmp-value.it f g ≡ lower_fault f g
 unfolding lower_fault
-returns-in-Undeclared c =
-    rw c.in-Undeclared.is
+least Fault.Undeclared Fault.Undeclared = refl
+least Fault.Undeclared Fault.WrongType = refl
+least Fault.Undeclared Fault.WrongTarget = refl
+least Fault.WrongType Fault.Undeclared = refl
+least Fault.WrongType Fault.WrongType = refl
+least Fault.WrongType Fault.WrongTarget = refl
+least Fault.WrongTarget Fault.Undeclared = refl
+least Fault.WrongTarget Fault.WrongType = refl
+least Fault.WrongTarget Fault.WrongTarget = refl
 
-pub returns-in-WrongTarget : goal.returns-in-WrongTarget
-unfolding lower_fault
-returns-in-WrongTarget c =
-    rw c.in-WrongTarget.is
-
-pub returns-in-Undeclared-g : goal.returns-in-Undeclared-g
-unfolding lower_fault
-returns-in-Undeclared-g c =
-    rw (c.in-WrongType.is, c.in-Undeclared-g.is)
-
-pub returns-in-WrongType-g : goal.returns-in-WrongType-g
-unfolding lower_fault
-returns-in-WrongType-g c =
-    rw (c.in-WrongType.is, c.in-WrongType-g.is)
-
-pub returns-in-WrongTarget-g : goal.returns-in-WrongTarget-g
-unfolding lower_fault
-returns-in-WrongTarget-g c =
-    rw (c.in-WrongType.is, c.in-WrongTarget-g.is)
+pub returns : goal.returns
+returns c = c.min.ensures ∙ least c.args.f c.args.g

@@ -1,7 +1,6 @@
 use Rattle.read_types.specs.Verdicts.{test}
 use Rattle.read_types.proofs.test.Goals as goal
 
--- `read_types::test` meets its contract. Assumes nothing.
 pub returns-then-passed : goal.returns-then-passed
 unfolding test
 returns-then-passed c =

@@ -1,3 +1,4 @@
+use Rattle.std.proofs.lemmas.Result.{err_from_is_err_and}
 use mathlib.Core.Path.{sym, ap, subst, ◌∙◌}
 use Rattle.read_scan.specs.Scans.{verdict_of}
 use Rattle.read_scan.specs.Table.{TableOf}
@@ -10,24 +11,13 @@ pub returns-then-text-gt-TEXT_BYTES : goal.returns-then-text-gt-TEXT_BYTES
 unfolding ReadingIs refusal_of
 returns-then-text-gt-TEXT_BYTES c = (too_long _ c.if-text-gt-TEXT_BYTES.true, c.requires)
 
-pub scan-s-requires : goal.scan-s-requires
-scan-s-requires c = (c.if-text-gt-TEXT_BYTES.false, c.requires)
-
 pub resolve-requires : goal.resolve-requires
 resolve-requires c =
-    (c.if-text-gt-TEXT_BYTES.false, c.scan-s.ensures.2 ∙ c.requires, scan-taken _ c.if-text-gt-TEXT_BYTES.false _ (ap verdict_of (sym c.in-Taken.is) ∙ c.scan-s.ensures.0), subst (TableOf _ _) c.in-Taken.is c.scan-s.ensures.1)
+    (c.if-text-gt-TEXT_BYTES.false, c.scan.ensures.2 ∙ c.requires, scan-taken _ c.if-text-gt-TEXT_BYTES.false _ (ap verdict_of (sym c.in_ok-n.was) ∙ c.scan.ensures.0), subst (TableOf _ _) c.in_ok-n.was c.scan.ensures.1)
 
-pub shape_of-work-in-Refused : goal.shape_of-work-in-Refused
-shape_of-work-in-Refused c = c.scan-s.ensures.2
-
-pub returns-in-Refused : goal.returns-in-Refused
+pub returns-in_err-n : goal.returns-in_err-n
 unfolding ReadingIs
-returns-in-Refused c =
-    (scan-refused _ c.if-text-gt-TEXT_BYTES.false c.scan_refusal.ensures (ap verdict_of (sym c.in-Refused.is) ∙ c.scan-s.ensures.0), c.scan-s.ensures.2 ∙ c.requires)
-
-pub shape_of-work-in-Taken : goal.shape_of-work-in-Taken
-shape_of-work-in-Taken c =
-    c.resolve.ensures.1 ∙ sym c.requires
-
-pub returns-in-Taken : goal.returns-in-Taken
-returns-in-Taken c = c.resolve.ensures
+returns-in_err-n c =
+    let p = err_from_is_err_and c.from_residual.result c.from_residual.ensures.1 in
+    rw (p.1, p.2.1)
+    (scan-refused _ c.if-text-gt-TEXT_BYTES.false p.2.0 (ap verdict_of (sym c.in_err-n.was) ∙ c.scan.ensures.0), c.scan.ensures.2 ∙ c.requires)

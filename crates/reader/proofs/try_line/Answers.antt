@@ -1,16 +1,8 @@
 use mathlib.Core.Path.{sym, ◌∙◌}
-use borrow.Author.Tests.{leb-true, leb-false}
+use borrow.Author.Tests.{leb-false}
 use Rattle.rules.specs.Grammar.{Field, Method, Var, first_statement, kind_number}
 use Rattle.reader.proofs.Lines.{var-left, kind-room, kind-formed}
 use Rattle.reader.proofs.try_line.Goals as goal
-
-pub put_declaration-requires : goal.put_declaration-requires
-put_declaration-requires c =
-    (c.requires.0.ready, c.requires.0.high, (c.requires.0.formed, sym c.is_declaration.ensures ∙ c.if-is_declaration.true), c.requires.0.room)
-
-pub put_statement-requires : goal.put_statement-requires
-put_statement-requires c =
-    (c.requires.0, (leb-true first_statement _ (sym c.is_statement.ensures ∙ c.if-is_statement.true), c.requires.1.1))
 
 pub put_field-requires : goal.put_field-requires
 unfolding kind_number
@@ -27,12 +19,6 @@ unfolding kind_number
 put_var-requires c =
     let e = var-left _ c.requires.1.0 (leb-false first_statement _ (sym c.is_statement.ensures ∙ c.if-is_statement.false)) c.in_default.in_default-own.rest.0.0.0.1 c.in_default.in_default-own.rest.0.0.1 c.in_default.in_default-own.rest.0.1 c.in_default.in_default-own.rest.1 (sym c.is_declaration.ensures ∙ c.if-is_declaration.false) in
     (c.requires.0.ready, c.requires.0.high, kind-formed c.args.text.now c.args.work.now c.args.p c.args.r Var e c.requires.0.formed, kind-room c.args.text.now c.args.work.now c.args.p c.args.r Var e c.requires.0.room)
-
-pub returns-in-2 : goal.returns-in-2
-returns-in-2 c = rw c.in-2.is c.put_field.ensures
-
-pub returns-in-3 : goal.returns-in-3
-returns-in-3 c = rw c.in-3.is c.put_method.ensures
 
 pub returns-in_default : goal.returns-in_default
 returns-in_default c =

@@ -35,29 +35,29 @@ slice_bounds-resolve_atom-start-2 c =
     let word = word-ends c.requires.1 _ (c.begun_by-kind.ensures ∙ ap begun_by c.byte_at.ensures) _ c.row_of-row.ensures in
     omega (arith, c.next_field-z.ensures.low, some-3 word c.next_field-y.ensures c.next_field-z.ensures c.requires.1.byte _ c.requires.1.form)
 
-pub resolve_atom-t-requires : goal.resolve_atom-t-requires
-resolve_atom-t-requires c =
+pub resolve_atom-requires : goal.resolve_atom-requires
+resolve_atom-requires c =
     let kind = c.begun_by-kind.ensures ∙ ap begun_by c.byte_at.ensures in
     let word = word-ends c.requires.1 _ kind _ c.row_of-row.ensures in
     (c.requires.0, kind-atom word c.next_field-y.ensures c.next_field-z.ensures c.requires.1.byte _ c.requires.1.form _ (word_cut c.requires.1 _ kind _ c.row_of-row.ensures))
 
 pub put_atom-requires : goal.put_atom-requires
 put_atom-requires c =
-    let o = row_ok _ _ _ _ _ c.resolve_atom-t.ensures c.in-Row.is in
+    let o = row_ok _ _ _ _ _ c.resolve_atom.ensures c.in-Ok.is in
     ((c.requires.0.whole, c.requires.2), (omega (arith, o.kind), (side_bytes _ o.left, side_bytes _ o.right)))
 
-pub returns-in-Bad : goal.returns-in-Bad
-returns-in-Bad c =
+pub returns-in-Err : goal.returns-in-Err
+returns-in-Err c =
     let kind = c.begun_by-kind.ensures ∙ ap begun_by c.byte_at.ensures in
     let word = word-ends c.requires.1 _ kind _ c.row_of-row.ensures in
     let tried =
     kind-tried word c.next_field-y.ensures c.next_field-z.ensures
     c.requires.1.byte _ c.requires.1.form _ (word_cut c.requires.1 _ kind _ c.row_of-row.ensures) _ _ _
-    c.resolve_atom-t.ensures in
-    next-bad word c.next_field-y.ensures c.next_field-z.ensures c.requires.1.byte _ c.requires.1.form _ _ _ _ _ tried c.in-Bad.is
+    c.resolve_atom.ensures in
+    next-bad word c.next_field-y.ensures c.next_field-z.ensures c.requires.1.byte _ c.requires.1.form _ _ _ _ _ tried c.in-Err.is
 
-pub returns-in-Row : goal.returns-in-Row
-returns-in-Row c =
+pub returns-in-Ok : goal.returns-in-Ok
+returns-in-Ok c =
     let kind = c.begun_by-kind.ensures ∙ ap begun_by c.byte_at.ensures in
     let word = word-ends c.requires.1 _ kind _ c.row_of-row.ensures in
     let tried =
@@ -65,7 +65,7 @@ returns-in-Row c =
     c.next_field-z.ensures
     c.requires.1.byte _ c.requires.1.form _ (word_cut c.requires.1 _ kind _
     c.row_of-row.ensures) _ _ _
-    c.resolve_atom-t.ensures in
+    c.resolve_atom.ensures in
     next-put word c.next_field-y.ensures
     c.next_field-z.ensures
-    c.requires.1.byte _ c.requires.1.form _ _ c.requires.0 _ _ _ _ c.requires.2 tried c.in-Row.is c.put_atom.ensures
+    c.requires.1.byte _ c.requires.1.form _ _ c.requires.0 _ _ _ _ c.requires.2 tried c.in-Ok.is c.put_atom.ensures

@@ -1,7 +1,10 @@
+use Rattle.std.proofs.Common.{Ok, Err}
+use Rattle.std.proofs.lemmas.Result.{err_from_is_err_and}
 use mathlib.Core.Path.{refl}
 use Rattle.rules.specs.Grammar as Grammar
 use Rattle.rules.specs.Grammar.{kind_number}
 use Rattle.resolve_pass.specs.Passes.{has_atoms, is_framed}
+use Rattle.resolve_bodies.specs.Bodies.{done_if}
 use Rattle.write_formulas.specs.Claims.{is_claim}
 use Rattle.resolve_bodies.proofs.Items.{kind-as, plain-left, claim-at, line_small, row_room, area-fits, side-follows, plain_follows, claim-follows, side-tried, plain-tried, claim-tried}
 use Rattle.resolve_bodies.proofs.put_row.Goals as goal
@@ -70,6 +73,14 @@ unfolding is_claim
 returns-in-21 c =
     claim-tried c.requires.0 c.seen-c.ensures (claim-at 21 _ refl c.in-21.is) _ c.put_claim-in-21.result c.put_claim-in-21.ensures
 
-pub returns-in_default : goal.returns-in_default
-returns-in_default c =
-    plain-tried c.requires.0 c.seen-c.ensures c.requires.1 c.in_default.in_default-own.rest.0.1 c.in_default.in_default-own.rest.1 _ c.put_plain.result c.done_if.result c.done_if.ensures c.put_plain.ensures
+pub returns-in_ok-put_plain-in_default : goal.returns-in_ok-put_plain-in_default
+unfolding done_if
+returns-in_ok-put_plain-in_default c =
+    plain-tried c.requires.0 c.seen-c.ensures c.requires.1 c.in_default.in_default-own.rest.0.1 c.in_default.in_default-own.rest.1 _ c.put_plain.result (Ok c.args.p.atoms) (rw c.in_ok-put_plain-in_default.was) c.put_plain.ensures
+
+pub returns-in_err-put_plain-in_default : goal.returns-in_err-put_plain-in_default
+unfolding done_if
+returns-in_err-put_plain-in_default c =
+    let p = err_from_is_err_and c.from_residual.result c.from_residual.ensures.1 in
+    rw p.1
+    (plain-tried c.requires.0 c.seen-c.ensures c.requires.1 c.in_default.in_default-own.rest.0.1 c.in_default.in_default-own.rest.1 _ c.put_plain.result (Err _) (rw (c.in_err-put_plain-in_default.was, p.2)) c.put_plain.ensures)

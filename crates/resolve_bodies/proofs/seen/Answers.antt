@@ -7,7 +7,7 @@ use Rattle.resolve_bodies.proofs.seen.Goals as goal
 pub returns : goal.returns
 unfolding seen_by
 returns c =
-    let e = c.unless-result.ensures ∙ ap (λ b. c.args.c.method && not b) (sym (seen-result c.args.kind c.requires)) in
+    let e = c.unless.ensures ∙ ap (λ b. c.args.c.method && not b) (sym (seen-result c.args.kind c.requires)) in
     λ j. record {
       classes = c.args.c.classes;
       fields = c.args.c.fields;

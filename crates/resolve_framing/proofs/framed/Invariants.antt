@@ -1,10 +1,6 @@
-use Prim.Native.Nat.{◌-◌, ◌≤◌}
 use Rattle.resolve_framing.proofs.Framing.{Passed}
 use Rattle.resolve_framing.proofs.framed.Given as goal
 
 -- The invariant: the answer is that of the atoms from i on, after those before.
 abbrev pub invariant-loop-i : goal.invariant-loop-i
-invariant-loop-i l = (l.i ≤ l.count) × Passed l.work l.first l.count l.i
-
-abbrev pub decreases-loop-i : goal.decreases-loop-i
-decreases-loop-i l = l.count - l.i
+invariant-loop-i l = Passed l.work l.first l.count l.i

@@ -4,10 +4,6 @@ use Rattle.rules.specs.Reading.{framed}
 use Rattle.resolve_framing.proofs.Framing.{as-loop, as-formula}
 use Rattle.resolve_framing.proofs.framed_line.Goals as goal
 
--- `resolve_framing::framed_line` meets its contract. Assumes nothing.
-pub framed_loop-requires : goal.framed_loop-requires
-framed_loop-requires c = (c.requires.0, c.requires.1 c.if-kind-eq-LOOP.true, c.requires.2)
-
 pub returns-then-kind-eq-LOOP : goal.returns-then-kind-eq-LOOP
 returns-then-kind-eq-LOOP c = c.framed_loop.ensures ∙ ap (framed []) (sym (as-loop _ _ _ _ c.if-kind-eq-LOOP.true))
 

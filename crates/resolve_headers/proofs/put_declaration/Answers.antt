@@ -17,10 +17,6 @@ unfolding kind_number
 put_class-requires c =
     (c.requires.0, c.requires.1, subst (FormedAfter c.args.text.now c.args.r) (ap kind_numbered c.in-1.is ∙ kind-of-number Class) c.requires.2.0, subst (λ k. LineRoom c.args.text.now c.args.work.now c.args.p (line_after c.args.text.now c.args.r k)) c.in-1.is c.requires.3)
 
-pub returns-in-1 : goal.returns-in-1
-returns-in-1 c =
-    rw c.in-1.is c.put_class.ensures
-
 pub returns-in_default : goal.returns-in_default
 unfolding kind_number is_kind is_statement names_after above_after
 returns-in_default c =

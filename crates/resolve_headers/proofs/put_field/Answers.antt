@@ -40,12 +40,6 @@ put_class_field-requires c =
     let b = field_fits c.args.text.now c.args.work.now c.args.p ws (c.args.p.above.classes - 1) c.requires.0 room c.requires.4 last in
     ((c.requires.0.whole, b.0), (omega (arith, name, b.1.0), b.1.1))
 
-pub with_field-requires : goal.with_field-requires
-with_field-requires c = c.requires.0.above
-
-pub moved-requires : goal.moved-requires
-moved-requires c = c.requires.3.line
-
 pub returns : goal.returns
 unfolding names_after is_kind is_statement kind_number
 returns c =

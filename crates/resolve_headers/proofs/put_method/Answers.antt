@@ -32,14 +32,6 @@ returns-then-not-may_add_method c =
     let good = method-test c.args.text.now c.args.work.now c.args.p (more (drop c.args.r c.args.text.now)) _ c.span_after-parameter.result c.method_row-m.ensures (c.span_after-parameter.ensures.name ∙ c.method_row-m.ensures.parameter) c.requires.2 c.may_add_method.ensures in
     put-bad c.args.text.now c.args.work.now c.args.p c.args.r Method refl c.may_add_method.result good (c.if-not-may_add_method.true)
 
-pub name_at-class-requires : goal.name_at-class-requires
-name_at-class-requires c =
-    (c.requires.0.whole, omega (arith, c.requires.0.above.classes))
-
-pub after-requires : goal.after-requires
-after-requires c =
-    omega (arith, c.requires.0.above.methods)
-
 pub put_method_row-requires : goal.put_method_row-requires
 unfolding kind_number
 put_method_row-requires c =
@@ -57,14 +49,6 @@ put_block-requires c =
       c.method_row-m.ensures.fits,
       s,
     )
-
-pub with_method-requires : goal.with_method-requires
-with_method-requires c =
-    c.requires.0.above
-
-pub moved-requires : goal.moved-requires
-moved-requires c =
-    c.requires.3.line
 
 pub returns : goal.returns
 unfolding names_after is_kind is_statement kind_number

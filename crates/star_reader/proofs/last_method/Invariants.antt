@@ -1,11 +1,8 @@
 use mathlib.Core.Path.{◌≡◌}
-use Prim.Native.Nat.{pred, ◌-◌, ◌≤◌}
+use Prim.Native.Nat.{pred, ◌≤◌}
 use Rattle.star_reader.specs.StarRead.{headers_in}
 use Rattle.star_reader.proofs.last_method.Given as goal
 
 -- `star_reader::last_method` meets its contract. Assumes nothing.
 abbrev pub invariant-loop-i : goal.invariant-loop-i
-invariant-loop-i l = (l.i ≤ l.line) × (l.next ≡ headers_in l.work l.i) × (l.last ≡ pred l.next) × (l.next ≤ l.i)
-
-abbrev pub decreases-loop-i : goal.decreases-loop-i
-decreases-loop-i l = l.line - l.i
+invariant-loop-i l = (l.next ≡ headers_in l.work l.i) × (l.last ≡ pred l.next) × (l.next ≤ l.i)

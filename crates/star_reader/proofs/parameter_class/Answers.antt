@@ -4,12 +4,8 @@ use Rattle.rules.specs.Names.{class_number}
 use Rattle.read_names.specs.Rows.{name_in}
 use Rattle.read_scopes.specs.Meanings.{declarations_in}
 use Rattle.read_declarations.specs.Texts.{lines_of}
-use Rattle.star_reader.proofs.Headers.{names-fit, takes-is, class-is}
+use Rattle.star_reader.proofs.Headers.{takes-is, class-is}
 use Rattle.star_reader.proofs.parameter_class.Goals as goal
-
-pub class_number-requires : goal.class_number-requires
-class_number-requires c =
-    (c.requires.size, names-fit c.requires c.class_names-c.ensures)
 
 pub returns : goal.returns
 returns c =

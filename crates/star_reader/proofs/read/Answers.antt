@@ -1,20 +1,12 @@
 use Rattle.reader.specs.Readings.{refusal_of}
 use Rattle.star_reader.specs.StarRead.{StarredIs}
-use Rattle.star_reader.proofs.Copied.{too_long, copy-long, copy_of}
+use Rattle.star_reader.proofs.Copied.{too_long, copy_of}
 use Rattle.star_reader.proofs.read.Goals as goal
 
 -- `star_reader::read` meets its contract. Assumes nothing.
 pub returns-then-text-gt-TEXT_BYTES : goal.returns-then-text-gt-TEXT_BYTES
 unfolding StarredIs refusal_of
 returns-then-text-gt-TEXT_BYTES c = (too_long _ c.if-text-gt-TEXT_BYTES.true, c.requires)
-
-pub slice_bounds-read_copy-end : goal.slice_bounds-read_copy-end
-slice_bounds-read_copy-end c =
-    copy-long c.if-text-gt-TEXT_BYTES.false c.unstar-s.ensures.0 c.unstar-s.ensures.1
-
-pub read_copy-requires : goal.read_copy-requires
-read_copy-requires c =
-    (record { text = _; copy = copy_of c.if-text-gt-TEXT_BYTES.false c.unstar-s.ensures.0 c.unstar-s.ensures.1 }, c.requires)
 
 pub returns : goal.returns
 returns c =

@@ -1,12 +1,14 @@
+use Rattle.std.proofs.lemmas.Result.{err_from_is_err_and}
 use Rattle.star_reader.specs.StarRead.{StarredIs}
 use Rattle.star_reader.proofs.Copied.{copy-tabled, copy-why, copy-refused}
 use Rattle.star_reader.proofs.read_copy.Goals as goal
 
 pub read_star-requires : goal.read_star-requires
 read_star-requires c =
-    (c.requires.0, copy-tabled _ _ c.read-r.ensures.0 c.in-Read.is)
+    (c.requires.0, copy-tabled _ _ c.read.ensures.0 c.in_ok-unframed.was)
 
-pub returns-in-Refused : goal.returns-in-Refused
+pub returns-in_err-unframed : goal.returns-in_err-unframed
 unfolding StarredIs
-returns-in-Refused c =
-    (λ t x. copy-refused x (copy-why _ _ c.read-r.ensures.0 c.in-Refused.is), c.read-r.ensures.1)
+returns-in_err-unframed c =
+    let p = err_from_is_err_and c.from_residual.result c.from_residual.ensures.1 in
+    rw (p.1, p.2) (λ t x. copy-refused x (copy-why _ _ c.read.ensures.0 c.in_err-unframed.was), c.read.ensures.1)

@@ -3,18 +3,18 @@ use Rattle.star_reader.proofs.Copied.{none-there, second-there, line-here, star-
 use Rattle.star_reader.proofs.read_star.Goals as goal
 
 -- `star_reader::read_star` meets its contract. Assumes nothing.
-pub returns-then-first-eq0 : goal.returns-then-first-eq0
+pub returns-in_default : goal.returns-in_default
 unfolding StarredIs
-returns-then-first-eq0 c = λ t x. none-there x c.requires.1 c.if-first-eq0.true
+returns-in_default c = λ t x. none-there x c.requires.1 c.in_default.is
 
-pub returns-then-second-ne0 : goal.returns-then-second-ne0
+pub returns-in-Some-second : goal.returns-in-Some-second
 unfolding StarredIs
-returns-then-second-ne0 c = λ t x. second-there x c.requires.1 c.if-second-ne0.true
+returns-in-Some-second c = λ t x. second-there x c.requires.1 c.in-Some-second.is
 
 pub star_at-requires : goal.star_at-requires
 star_at-requires c =
-    line-here c.requires.0.copy c.requires.1 c.if-first-eq0.false c.if-second-ne0.false
+    line-here c.requires.0.copy c.requires.1 c.in-Some.is c.in_default-second.is
 
 pub returns : goal.returns
 unfolding StarredIs
-returns c = λ t x. star-read x c.requires.1 c.if-first-eq0.false c.if-second-ne0.false c.star_at.ensures
+returns c = λ t x. star-read x c.requires.1 c.in-Some.is c.in_default-second.is c.star_at.ensures

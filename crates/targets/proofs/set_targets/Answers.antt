@@ -12,26 +12,18 @@ unfolding power stack_of
 loop-i-init c =
     let e : c.args.n - 0 ≡ c.args.n = omega arith in (
       c.requires.0,
-      omega arith,
       (omega arith, omega arith),
       ap (λ (n : ℕ). targets_from c.args.work.now 0 n []) e,
     )
-
-pub loop-i-smaller : goal.loop-i-smaller
-loop-i-smaller c = omega arith
 
 pub loop-i-preserved : goal.loop-i-preserved
 loop-i-preserved c =
     let st : List ℕ = stack_of c.loop-i.o.depth c.loop-i.o.rows in
     let on = targets-on c.loop-i.work c.loop-i.i c.args.n st (omega arith) in (
       ap length c.work_after.ensures ∙ (work-after-length c.loop-i.work c.kind_at-k.result c.loop-i.i st ∙ c.loop-i.invariant.0),
-      omega arith,
       c.open_after-o.ensures.1,
-      cc (on, c.work_after.ensures, c.open_after-o.ensures.0, c.kind_at-k.ensures, c.loop-i.invariant.3),
+      cc (on, c.work_after.ensures, c.open_after-o.ensures.0, c.kind_at-k.ensures, c.loop-i.invariant.2),
     )
 
-pub shape_of-work : goal.shape_of-work
-shape_of-work c = c.loop-i.invariant.0 ∙ sym c.requires.0
-
 pub returns : goal.returns
-returns c = sym (targets-end _ _ c.args.n _ (omega arith)) ∙ c.loop-i.invariant.3
+returns c = sym (targets-end _ _ c.args.n _ (omega arith)) ∙ c.loop-i.invariant.2

@@ -1,13 +1,10 @@
 use mathlib.Core.Path.{◌≡◌}
-use Prim.Native.Nat.{◌+◌, ◌-◌, ◌≤◌}
-use lib.ListN.{length, drop}
+use Prim.Native.Nat.{◌+◌}
+use lib.ListN.{drop}
 use Rattle.rules.specs.Text.{up_to}
 use Rattle.unstarring.proofs.Lines.{is_feed}
 use Rattle.unstarring.proofs.line_end.Given as goal
 
 -- `unstarring::line_end` meets its contract. Assumes nothing.
 abbrev pub invariant-loop-i : goal.invariant-loop-i
-invariant-loop-i l = (l.at ≤ l.i) × (l.i ≤ length l.text) × (l.i + up_to is_feed (drop l.i l.text) ≡ l.at + up_to is_feed (drop l.at l.text))
-
-abbrev pub decreases-loop-i : goal.decreases-loop-i
-decreases-loop-i l = length l.text - l.i
+invariant-loop-i l = l.i + up_to is_feed (drop l.i l.text) ≡ l.at + up_to is_feed (drop l.at l.text)

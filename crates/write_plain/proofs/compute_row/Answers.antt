@@ -1,9 +1,6 @@
 use Rattle.write_plain.proofs.Tries.{compute-tried}
 use Rattle.write_plain.proofs.compute_row.Goals as goal
 
-pub judge_compute-v-requires : goal.judge_compute-v-requires
-judge_compute-v-requires c = (c.requires.0.whole, c.variable_at-x.ensures.within, c.variable_at-y.ensures.within, c.variable_at-z.ensures.within)
-
 pub returns : goal.returns
 returns c =
     compute-tried c.args.text.now c.args.work.now c.args.c c.args.r c.args.line c.row_if.result c.span_after-a.ensures c.span_after-b.ensures c.span_after-d.ensures

@@ -1,8 +1,8 @@
+use Rattle.std.proofs.Common.{Ok}
 use mathlib.Core.Path.{sym, ap, ◌∙◌}
 use Rattle.rules.specs.Base.{is}
 use Rattle.read_names.specs.Rows.{name_in}
 use Rattle.read_types.specs.declared.Fault.{Fault}
-use Rattle.read_types.specs.declared.Verdict.{Verdict}
 use Rattle.read_types.specs.Verdicts.{test}
 use Rattle.write_plain.proofs.judge_compute.Goals as goal
 
@@ -57,4 +57,4 @@ returns c =
       ap (λ s. is "int" (name_in c.args.text.now s))
           (sym c.type_of-3.ensures) ∙ (sym c.is_int-3.ensures ∙ c.if-not-is_int-3.false),
     ) (c.test.ensures
-    ∙ ap (λ b. test b Fault.WrongTarget Verdict.Good) c.is_local.ensures)
+    ∙ ap (λ b. test b Fault.WrongTarget (Ok tt)) c.is_local.ensures)

@@ -1,8 +1,8 @@
+use Rattle.std.proofs.Common.{Ok}
 use mathlib.Core.Path.{sym, ap, ◌∙◌}
 use borrow.Author.Tests.{le-ltb, lt-ltb}
 use Rattle.rules.specs.Text.{reserved}
 use Rattle.read_types.specs.declared.Fault.{Fault}
-use Rattle.read_types.specs.declared.Verdict.{Verdict}
 use Rattle.read_types.specs.Verdicts.{test}
 use Rattle.write_plain.proofs.judge_new.Goals as goal
 
@@ -45,4 +45,4 @@ returns c =
       ← c.type_of.ensures,
       sym c.same_name.ensures
           ∙ c.if-not-same_name.false,
-    ) (c.test.ensures ∙ ap (λ b. test b Fault.WrongTarget Verdict.Good) c.is_local.ensures)
+    ) (c.test.ensures ∙ ap (λ b. test b Fault.WrongTarget (Ok tt)) c.is_local.ensures)

@@ -1,9 +1,6 @@
 use Rattle.write_plain.proofs.Tries.{new-tried}
 use Rattle.write_plain.proofs.new_row.Goals as goal
 
-pub judge_new-v-requires : goal.judge_new-v-requires
-judge_new-v-requires c = (c.requires.0.whole, c.variable_at-x.ensures.within)
-
 pub returns : goal.returns
 returns c =
     new-tried c.args.text.now c.args.work.now c.args.c c.args.r c.args.line c.row_if.result c.span_after-a.ensures c.span_after-b.ensures c.variable_at-x.ensures

@@ -1,12 +1,6 @@
 use Rattle.write_plain.proofs.Tries.{set-tried}
 use Rattle.write_plain.proofs.set_row.Goals as goal
 
-pub variable_at-y-requires : goal.variable_at-y-requires
-variable_at-y-requires c = c.requires.0
-
-pub judge_set-v-requires : goal.judge_set-v-requires
-judge_set-v-requires c = (c.requires.0.whole, c.variable_at-y.ensures.within)
-
 pub returns : goal.returns
 returns c =
     set-tried c.args.text.now c.args.work.now c.args.c c.args.r c.args.line c.row_if.result c.span_after-a.ensures c.span_after-b.ensures c.span_after-d.ensures

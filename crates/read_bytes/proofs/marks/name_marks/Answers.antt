@@ -7,9 +7,3 @@ overflow_add-letter c = let h = and_le_r c.args.x 0x7f7f7f7f7f7f7f7f in omega (a
 
 pub overflow_add-letter-2 : goal.overflow_add-letter-2
 overflow_add-letter-2 c = let h = and_le_r c.args.x 0x7f7f7f7f7f7f7f7f in omega (arith, or_lt 63 (bit_and c.args.x 0x7f7f7f7f7f7f7f7f) 0x2020202020202020 (omega arith) (omega arith))
-
-pub overflow_add-digit : goal.overflow_add-digit
-overflow_add-digit c = omega (arith, and_le_r c.args.x 0x7f7f7f7f7f7f7f7f)
-
-pub overflow_add-digit-2 : goal.overflow_add-digit-2
-overflow_add-digit-2 c = omega (arith, and_le_r c.args.x 0x7f7f7f7f7f7f7f7f)

@@ -1,18 +1,6 @@
 use Rattle.write_plain.proofs.Tries.{call-tried}
 use Rattle.write_plain.proofs.calls.call_row.Goals as goal
 
-pub type_of-class-requires : goal.type_of-class-requires
-type_of-class-requires c =
-    (c.requires.0.whole, c.variable_at-y.ensures.within)
-
-pub method_number-m-requires : goal.method_number-m-requires
-method_number-m-requires c =
-    (c.requires.0.whole, c.requires.0.fits)
-
-pub judge_call-v-requires : goal.judge_call-v-requires
-judge_call-v-requires c =
-    (c.requires.0, c.variable_at-x.ensures.within, c.variable_at-z.ensures.within)
-
 pub returns : goal.returns
 returns c =
     call-tried c.args.text.now c.args.work.now c.args.c c.args.r c.args.line c.row_if.result

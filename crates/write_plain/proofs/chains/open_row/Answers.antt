@@ -1,9 +1,6 @@
 use Rattle.write_plain.proofs.Tries.{open-tried}
 use Rattle.write_plain.proofs.chains.open_row.Goals as goal
 
-pub judge_open-v-requires : goal.judge_open-v-requires
-judge_open-v-requires c = (c.requires.0.whole, c.chain_at-x.ensures.variable.within, c.variable_at-y.ensures.within)
-
 pub returns : goal.returns
 returns c =
     open-tried c.args.text.now c.args.work.now c.args.c c.args.r c.args.line c.row_if.result c.span_after-a.ensures c.span_after-b.ensures
