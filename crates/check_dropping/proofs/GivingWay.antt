@@ -1,9 +1,9 @@
 -- Giving way: what becomes of the sides that are dropped.
-use mathlib.Core.Path.{◌≡◌, refl, sym, ap, ◌∙◌, subst}
+use mathlib.Core.Path.{◌≡◌, refl, sym, ap, ◌∙◌}
 use mathlib.Core.Bool.{Bool, true, false, cond, ◌&&◌}
 use mathlib.Core.List.{List}
 use mathlib.Core.Option.{Option, none, some}
-use mathlib.Core.Logic.{◌⊎◌, inl, inr, ⊎_elim}
+use mathlib.Core.Logic.{◌⊎◌}
 use Prim.Native.Nat.{ℕ, ◌+◌, ◌*◌, ◌≤◌, ◌<◌}
 use native.Mathlib.Omega.{arith}
 use native.Mathlib.Decide.{dec_lt}
@@ -13,7 +13,6 @@ use Rattle.rules.specs.Base.{first}
 use Rattle.rules.specs.Syntax.{same}
 use Rattle.rules.specs.State as Rules
 use Rattle.rules.specs.State.{Term, Permission, Renaming, representative, equal_by, equal_in, in_order, is_left, gives_way, becomes}
-use Rattle.rules.proofs.Lists.{decide_eq}
 use Rattle.check_equality.specs.Layout.{slots, left_sides}
 use Rattle.check_equality.specs.Keys.{term_of}
 use Rattle.check_equality.specs.Links.{Header, term_at}
@@ -85,51 +84,7 @@ module _ (old b : List ℕ) (skip : List Bool) (x j : ℕ) (key : List ℕ) (gon
         is = λ ρ ps W. rw (ks (get_or lead a 0) (omega (arith, L.within)), fs (get_or lead a 0) (omega (arith, L.within))) (L.is ρ ps W);
       }
 
-  pub lead-small : (a : ℕ) → get_or lead a 0 ≤ j
-  lead-small a = ⊎_elim (λ e. omega (arith, e)) (λ n. omega (arith, (G.leads a n).within)) (decide_eq (get_or lead a 0) 0)
-
-  -- it is not dropped
-  pub side_left : get_or key j 0 ≡ get_or old j 0 → get_or gone j false ≡ false → SideGiven old b skip x j key gone key gone lead
-  side_left e d =
-      record {
-        next = record { header = G.header; size = G.size; leads_size = G.leads_size; leads = lead-on key gone (λ i q. refl) (λ i q. refl) };
-        here = λ ρ ps W. rw (d, e);
-        keys = λ i q. refl;
-        flags = λ i q. refl;
-      }
-
   module _ (w : Wf old b) (h : j < left_sides + 2 * facts b) (d : get_or gone j false ≡ true) where
-    -- the first of its label
-    module _ (key' : List ℕ) (gone' : List Bool) (t : Option Term) (S : Stored j t key gone key' gone')
-        (e : (ρ : Renaming) (ps : List Permission) → Drops ρ ps b skip x → t ≡ successor_at old b ρ ps j) where
-      abbrev lead' : List ℕ
-      lead' = set lead (get_or b j 0) j
-
-      new-lead : (a : ℕ) → a ≡ get_or b j 0 → Lead old b skip x (j + 1) key' gone' a (get_or lead' a 0)
-      new-lead a q =
-          subst (λ (i : ℕ). Lead old b skip x (j + 1) key' gone' a i)
-          (sym (ap (λ (c : ℕ). get_or lead' c 0) q ∙ get_or-set_same lead (get_or b j 0) j 0 (omega (arith, G.leads_size, w.linked.decides.low j h, w.linked.fit))))
-          (record { within = omega arith; label = sym q; is = λ ρ ps W. S.here ∙ e ρ ps W })
-
-      old-lead : (a : ℕ) → (a ≡ get_or b j 0 → ⊥) → (get_or lead' a 0 ≡ 0 → ⊥) → Lead old b skip x (j + 1) key' gone' a (get_or lead' a 0)
-      old-lead a q n =
-          let s : get_or lead' a 0 ≡ get_or lead a 0 = get_or-set_other lead (get_or b j 0) a j 0 q in
-          subst (λ (i : ℕ). Lead old b skip x (j + 1) key' gone' a i) (sym s) (lead-on key' gone' S.keys S.flags a (λ z. n (s ∙ z)))
-
-      pub side-first : SideGiven old b skip x j key gone key' gone' lead'
-      side-first =
-          record {
-            next = record {
-              header = S.header;
-              size = S.size;
-              leads_size = length-set lead (get_or b j 0) j ∙ G.leads_size;
-              leads = λ a n. ⊎_elim (λ q. new-lead a q) (λ q. old-lead a q n) (decide_eq a (get_or b j 0));
-            };
-            here = λ ρ ps W. rw d (S.here ∙ e ρ ps W);
-            keys = S.keys;
-            flags = S.flags;
-          }
-
     -- one of its label has given way
     module _ (g : left_sides ≤ j) (n : get_or lead (get_or b j 0) 0 ≡ 0 → ⊥) where
       abbrev i : ℕ
@@ -191,34 +146,6 @@ pub given-first :
     (old b : List ℕ) (skip : List Bool) (x : ℕ) (gone : List Bool) (from : ℕ) →
     ((j : ℕ) → left_sides ≤ j → j < left_sides + 2 * from → get_or gone j false ≡ false) → Given old b skip x gone from (left_sides + 2 * from) old gone
 given-first old b skip x gone from free = record { done = λ ρ ps W j a h. rw (free j a h); keys = λ j h. refl; flags = λ j h. refl }
-
-pub given-more :
-    (old b : List ℕ) (skip : List Bool) (x : ℕ) (gone₀ : List Bool) (from i : ℕ) (key : List ℕ) (gone : List Bool) (key' : List ℕ) (gone' : List Bool) (lead' : List ℕ) →
-    left_sides + 2 * from ≤ i → Given old b skip x gone₀ from i key gone → SideGiven old b skip x i key gone key' gone' lead' →
-    Given old b skip x gone₀ from (i + 1) key' gone'
-given-more old b skip x gone₀ from i key gone key' gone' lead' l G S =
-    record {
-      done = λ ρ ps W j a h. ⊎_elim (λ d. rw d (here ρ ps W)) (λ d. before ρ ps W j a (omega arith) d) (decide_eq j i);
-      keys = λ j h. S.keys j (⊎_elim (λ g d. omega arith) (λ g d. omega arith) h) ∙ G.keys j (⊎_elim (λ g. inl g) (λ g. inr (omega arith)) h);
-      flags = λ j h. S.flags j (⊎_elim (λ g d. omega arith) (λ g d. omega arith) h) ∙ G.flags j (⊎_elim (λ g. inl g) (λ g. inr (omega arith)) h);
-    }
-  where
-    here : (ρ : Renaming) (ps : List Permission) → Drops ρ ps b skip x → become_of key' gone' i ≡ given_at old b ρ ps gone₀ i
-    here ρ ps W = S.here ρ ps W ∙ rw (G.flags i (inr (omega arith)))
-
-    before : (ρ : Renaming) (ps : List Permission) → Drops ρ ps b skip x → (j : ℕ) → left_sides ≤ j → j < i → (j ≡ i → ⊥) → become_of key' gone' j ≡ given_at old b ρ ps gone₀ j
-    before ρ ps W j a h d = rw (S.keys j d, S.flags j d) (G.done ρ ps W j a h)
-
-pub given-all :
-    (old b : List ℕ) (skip : List Bool) (x : ℕ) (gone₀ : List Bool) (from i : ℕ) (key : List ℕ) (gone : List Bool) → left_sides + 2 * facts b ≤ i → Header key →
-    Given old b skip x gone₀ from i key gone → GaveWay old b skip x gone₀ from key gone
-given-all old b skip x gone₀ from i key gone h H G =
-    record {
-      header = H;
-      keys = λ j g. G.keys j (inl g);
-      flags = λ j g. G.flags j (inl g);
-      at = λ ρ ps W j a g. G.done ρ ps W j a (omega arith);
-    }
 
 -- THE FACTS THEN
 -- what becomes of the sides

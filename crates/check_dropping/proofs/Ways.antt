@@ -21,11 +21,11 @@ use Rattle.check_equality.specs.Links.{Header, Alike, term_at, picked}
 use Rattle.check_equality.proofs.Keys.{of-variable, one_key, same_key}
 use Rattle.check_state.specs.States.{Wf, facts, facts_of, state_of}
 use Rattle.check_state.proofs.Entries.{no-flags}
-use Rattle.check_state.specs.declared.Resolved.{Resolved}
+use Rattle.std.specs.Prelude as Std
 use Rattle.check_successors.specs.Successors.{Drops, term_or}
 use Rattle.check_labels.specs.Facts.{Stands, Rebuilt}
 use Rattle.check_scans.specs.Sides.{Dropped, MappedKeys, mentions_key, renamed_key}
-use Rattle.check_dropping.specs.Dropping.{Dropping, DropsSides, Forgettable, Forgotten, Forgot, Renamed, GaveWay, StandsIn}
+use Rattle.check_dropping.specs.Dropping.{Dropping, DropsSides, Forgettable, Forgot, Renamed, GaveWay, StandsIn}
 use Rattle.check_scans.specs.Scans.{path_key_of, Untouched}
 use Rattle.check_labels.specs.Labels.{Whole, even, Keeps}
 use Rattle.check_dropping.proofs.GivingWay.{gave, named, gave-sides}
@@ -116,16 +116,6 @@ flags-dropping test key b skip x gone F D =
       plain = F.plain;
       drops = F.drops;
       stands = λ j a h. F.sides j a h ∙ ap (λ (c : Bool). cond c none (some (term_at key j))) (sym (D.at j a h));
-    }
-
-pub flags-forgot :
-    (test : ℕ → Bool) (key b : List ℕ) (skip : List Bool) (x : ℕ) (gone : List Bool) (key' b' : List ℕ) →
-    Dropped test key (left_sides + 2 * facts b) gone → Forgotten key b skip x gone key' b' → Forgot test key b skip x key' b'
-flags-forgot test key b skip x gone key' b' D F =
-    record {
-      wf = F.wf;
-      facts = λ ρ ps W S. F.facts ρ ps W (λ j a h. S j a h ∙ ap (λ (c : Bool). cond c none (some (term_at key j))) (sym (D.at j a h)));
-      rest = F.rest;
     }
 
 module _ (key b : List ℕ) (skip : List Bool) (x : ℕ) (gone : List Bool) (from : ℕ) (key₁ : List ℕ) (gone₁ : List Bool) (U : Untouched key b gone from)
@@ -269,6 +259,6 @@ rebuilt-renamed map key b key₁ key' b' M R =
     }
 
 -- the key that a search gives
-pub told-key : (r : Resolved) (t : ℕ) (o : Option Term) → r ≡ Resolved.Key t → term_or r ≡ o → some (term_of t) ≡ o
+pub told-key : (r : Std.Option ℕ) (t : ℕ) (o : Option Term) → r ≡ Std.Some t → term_or r ≡ o → some (term_of t) ≡ o
 unfolding term_or
 told-key r t o e d = sym (ap term_or e) ∙ d

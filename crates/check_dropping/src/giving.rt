@@ -9,15 +9,14 @@ ghost use Rattle.check_scans.specs.Scans.{Untouched};
 ghost use Rattle.check_dropping.specs.Dropping.{Stored, Giving, SideGiven, GaveWay, Dropping, Forgotten, IsSide};
 
 use check_equality::State;
-use check_state::Resolved;
 use rules::Machine;
 
 // Stores what becomes of the side in slot j.
-fn store(key: &mut [u64; State::SLOTS], gone: &mut [bool; State::SLOTS], j: usize, k: Resolved)
+fn store(key: &mut [u64; State::SLOTS], gone: &mut [bool; State::SLOTS], j: usize, k: Option<u64>)
     requires { (left_sides ≤ j) × (j < slots) × Header key.old × (length gone.old ≡ slots) }
     ensures { Stored j (term_or k) key.old gone.old key.new gone.new }
 {
-    let Resolved::Key(l) = k else {
+    let Some(l) = k else {
         gone[j] = true;
         return;
     };
@@ -26,7 +25,7 @@ fn store(key: &mut [u64; State::SLOTS], gone: &mut [bool; State::SLOTS], j: usiz
 }
 
 // The dropped side in slot j gives way; `old` and b hold the state before. `lead` has, for each label, the first slot with it that gave
-// way, or 0: what is ~ to it has the same successor.
+// way, or 0 (bytes, since Options would take twice the room): what is ~ to it has the same successor.
 fn give_dropped<'a>(
     old: &'a [u64; State::SLOTS],
     b: &'a [u8; State::BYTES],
@@ -92,10 +91,8 @@ fn give_way<'a>(
     let old = *key;
     let m = State::LEFT + 2 * (b[State::FACTS] as usize);
     let mut lead = [0; State::SLOTS];
-    let mut j = State::LEFT + 2 * from;
-    while j < m {
+    for j in State::LEFT + 2 * from..m {
         give_side(&old, b, skip, x, key, gone, &mut lead, j);
-        j += 1;
     }
 }
 

@@ -15,7 +15,6 @@ ghost use Rattle.check_entries.specs.PathsOut.{key_dropped, OutMarked};
 ghost use Rattle.check_scans.specs.Sides.{renamed_key, mentions_key};
 
 use check_equality::State;
-use check_state::Resolved;
 use rules::Machine;
 
 // The label of the key k, which is looked for in slot l first.
@@ -54,7 +53,7 @@ fn give_key(
     let l = State::LEFT + 2 * from;
     let mut gone = [false; State::SLOTS];
     let a = label_near(key, b, m, k, l);
-    let Resolved::Key(t) = check_successors::successor(key, b, skip, x, k, a) else {
+    let Some(t) = check_successors::successor(key, b, skip, x, k, a) else {
         check_scans::drop_path(key, l, m, k, &mut gone);
         giving::forget(key, b, skip, x, &mut gone, from);
         return;

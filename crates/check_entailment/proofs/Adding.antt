@@ -3,19 +3,21 @@ use mathlib.Core.Path.{◌≡◌, refl, sym, ap, ◌∙◌, subst}
 use mathlib.Core.Bool.{Bool, false, true}
 use mathlib.Core.List.{List, [], ◌∷◌, ◌++◌}
 use mathlib.Core.Logic.{◌⊎◌, ⊎_elim}
+use Rattle.std.specs.Prelude.{Ok, Err}
 use mathlib.Core.Option.{Option, none, some}
 use Prim.Native.Nat.{ℕ, ◌+◌, ◌*◌, ◌≤◌, ◌<◌}
 use native.Mathlib.Omega.{arith}
 use lib.Dec.{eqb}
+use mir.Val.{bool_byte}
 use lib.ListN.{length, get_or, set, length-set}
 use lib.Seq.{get_or-set_same, get_or-set_other}
 use borrow.Author.Tests.{lt-ltb, le-ltb}
 use Rattle.rules.specs.Base.{Try, ok, no, ◌>>=◌, ◌>>◌, check}
 use Rattle.rules.specs.Limits.{most_permissions, most_facts}
-use Rattle.rules.specs.Answers.{Refusal, unresolved}
+use Rattle.rules.specs.Answers.{Refusal}
 use Rattle.rules.specs.Syntax.{Rel, Permit, var, acc, read, own, cmp}
 use Rattle.rules.specs.State as Rules
-use Rattle.rules.specs.State.{Permission, Term, entry, equal_in, split, resolve}
+use Rattle.rules.specs.State.{Permission, Term, entry, equal_in, split}
 use Rattle.rules.proofs.Lists.{decide_eq}
 use Rattle.check_equality.specs.Keys.{term_of}
 use Rattle.check_equality.specs.Links.{Pushed, rel_of, fact_of}
@@ -27,8 +29,10 @@ use Rattle.check_state.proofs.Writing.{entries-same, kinds-same, linked-same, fa
 use Rattle.check_entries.specs.Entries.{appended}
 use Rattle.check_entries.proofs.Halves.{appended-listed}
 use Rattle.check_entries.proofs.Keeping.{with-entry, entry-size, entry_other, entries-more, kinds-more}
-use Rattle.check_entailment.specs.declared.Answer.{Answer}
-use Rattle.check_entailment.specs.Answers.{answered, Adds, AddsAtom}
+use Rattle.check_entailment.specs.declared.Refusal as Declared
+use Rattle.check_entailment.specs.declared.Refusal.TheVariants.{Full}
+use Rattle.check_entailment.specs.Answers.{Answer, refusal_of, answered, sides_of, resolved_sides, Adds, AddsAtom}
+use Rattle.check_entailment.proofs.Refusals.{by-sides}
 use Rattle.check_entailment.proofs.Splits.{instead, split-none, split-first, joined_at}
 
 -- nothing follows
@@ -39,20 +43,19 @@ last (no r) = refl
 
 -- RELATIONS
 module _ (key b : List ℕ) (apart : Bool) (l r : Term) where
-  pub left-unadded : resolve (equal_in (state_of key b)) (permissions_of b) l ≡ no unresolved → Wf key b → AddsAtom key b (cmp (rel_of apart) l r) Answer.Unresolved key b
-  unfolding Rules.add ◌>>=◌ answered
-  left-unadded e w = record { wf = w; same = rw e }
+  abbrev related : Term → Term → Try Refusal Rules.State
+  related t u = Rules.add_fact (rel_of apart) t u (state_of key b) >>= λ s. Rules.add [] s
 
-  module _ (t : Term) (et : resolve (equal_in (state_of key b)) (permissions_of b) l ≡ ok t) where
-    pub right-unadded : resolve (equal_in (state_of key b)) (permissions_of b) r ≡ no unresolved → Wf key b → AddsAtom key b (cmp (rel_of apart) l r) Answer.Unresolved key b
-    unfolding Rules.add ◌>>=◌ answered
-    right-unadded e w = record { wf = w; same = rw (et, e) }
+  pub relation-unadded : (e : Declared.Refusal) → sides_of (Err e) ≡ resolved_sides (state_of key b) l r → Wf key b → AddsAtom key b (cmp (rel_of apart) l r) (Err e) key b
+  unfolding Rules.add answered sides_of ◌>>=◌
+  relation-unadded e d w = record { wf = w; same = sym (by-sides (state_of key b) l r related ∙ rw (← d)) }
 
-    pub relation-added :
-        (u : Term) → resolve (equal_in (state_of key b)) (permissions_of b) r ≡ ok u → (a : Answer) (key' b' : List ℕ) →
-        Adds (Rules.add_fact (rel_of apart) t u (state_of key b)) a key' b' → AddsAtom key b (cmp (rel_of apart) l r) a key' b'
-    unfolding Rules.add ◌>>=◌
-    relation-added u eu a key' b' A = record { wf = A.wf; same = A.same ∙ sym (rw (et, eu) (last (Rules.add_fact (rel_of apart) t u (state_of key b)))) }
+  pub relation-added :
+      (t u : ℕ) → sides_of (Ok (t, u)) ≡ resolved_sides (state_of key b) l r → (a : Answer) (key' b' : List ℕ) →
+      Adds (Rules.add_fact (rel_of apart) (term_of t) (term_of u) (state_of key b)) a key' b' → AddsAtom key b (cmp (rel_of apart) l r) a key' b'
+  unfolding Rules.add sides_of ◌>>=◌
+  relation-added t u d a key' b' A =
+      record { wf = A.wf; same = A.same ∙ sym (by-sides (state_of key b) l r related ∙ rw (← d) (last (Rules.add_fact (rel_of apart) (term_of t) (term_of u) (state_of key b)))) }
 
 -- PERMISSIONS
 pub own-atom : (key b : List ℕ) (k : Permit) (x f : ℕ) (a : Answer) (b' : List ℕ) → Adds (Rules.add_own k x f (state_of key b)) a key b' → AddsAtom key b (own k x f) a key b'
@@ -66,24 +69,24 @@ own-listed k x f s i h =
     ⊎_elim (λ (e : k ≡ acc_kind). rw e) (λ (n : k ≡ acc_kind → ⊥). let e : k ≡ chain_kind = omega (arith, i.0, i.1, h, n) in rw e) (decide_eq k acc_kind)
 
 -- ROOM
-pub full-permissions : (key b : List ℕ) (p : Permission) → Wf key b → most_permissions ≤ entries b → Adds (Rules.add_permission p (state_of key b)) Answer.Full key b
-unfolding Rules.add_permission check ◌>>◌ answered
+pub full-permissions : (key b : List ℕ) (p : Permission) → Wf key b → most_permissions ≤ entries b → Adds (Rules.add_permission p (state_of key b)) (Err Full) key b
+unfolding Rules.add_permission check ◌>>◌ answered refusal_of
 full-permissions key b p w h = record { wf = w; same = sym (rw (listed-length (permission_at b) (entries b), le-ltb (entries b) most_permissions h)) }
 
 room-permissions :
     (key b : List ℕ) (p : Permission) (b' : List ℕ) → entries b < most_permissions → Wf key b' → permissions_of b' ≡ permissions_of b ++ (p ∷ []) → facts_of key b' ≡ facts_of key b →
-    Adds (Rules.add_permission p (state_of key b)) Answer.Done key b'
-unfolding Rules.add_permission check ◌>>◌ answered
+    Adds (Rules.add_permission p (state_of key b)) (Ok tt) key b'
+unfolding Rules.add_permission check ◌>>◌ answered refusal_of
 room-permissions key b p b' h w e d = record { wf = w; same = sym (rw (listed-length (permission_at b) (entries b), lt-ltb (entries b) most_permissions h, e, d)) }
 
-pub full-facts : (key b : List ℕ) (n : Rel) (t u : Term) → Wf key b → most_facts ≤ facts b → Adds (Rules.add_fact n t u (state_of key b)) Answer.Full key b
-unfolding Rules.add_fact check ◌>>◌ answered
+pub full-facts : (key b : List ℕ) (n : Rel) (t u : Term) → Wf key b → most_facts ≤ facts b → Adds (Rules.add_fact n t u (state_of key b)) (Err Full) key b
+unfolding Rules.add_fact check ◌>>◌ answered refusal_of
 full-facts key b n t u w h = record { wf = w; same = sym (rw (listed-length (fact_at key b) (facts b), le-ltb (facts b) most_facts h)) }
 
 room-facts :
     (key b : List ℕ) (n : Rel) (t u : Term) (key' b' : List ℕ) → facts b < most_facts → Wf key' b' → permissions_of b' ≡ permissions_of b →
-    facts_of key' b' ≡ facts_of key b ++ (record { rel = n; left = t; right = u } ∷ []) → Adds (Rules.add_fact n t u (state_of key b)) Answer.Done key' b'
-unfolding Rules.add_fact check ◌>>◌ answered
+    facts_of key' b' ≡ facts_of key b ++ (record { rel = n; left = t; right = u } ∷ []) → Adds (Rules.add_fact n t u (state_of key b)) (Ok tt) key' b'
+unfolding Rules.add_fact check ◌>>◌ answered refusal_of
 room-facts key b n t u key' b' h w e d = record { wf = w; same = sym (rw (listed-length (fact_at key b) (facts b), lt-ltb (facts b) most_facts h, e, d)) }
 
 -- one more entry and its count
@@ -122,7 +125,7 @@ module _ (key b : List ℕ) (k x f : ℕ) (is_kind : IsKind k) (w : Wf key b) (h
         kinds = kinds-same one counted-one (entries b + 1) (entries counted-one) last_one (λ i g. at_one i (omega arith)) (kinds-more b (entries b) x f k w.linked.size h is_kind w.kinds);
       }
 
-  pub one-permission : Adds (Rules.add_permission (entry (permit_of k) x f) (state_of key b)) Answer.Done key counted-one
+  pub one-permission : Adds (Rules.add_permission (entry (permit_of k) x f) (state_of key b)) (Ok tt) key counted-one
   one-permission =
       room-permissions key b _ counted-one h wf-one (ap (permissions_in counted-one) last_one ∙ more-entries)
       (ap (facts_in key counted-one) count-one ∙ facts-same key b counted-one (facts b) w.linked.fit low-one)
@@ -196,13 +199,17 @@ module _ (key b : List ℕ) (w : Wf key b) (kinds : List ℕ) (x f i : ℕ) (B :
         (split-first joins-it _ (λ j. permission_at raised j ∷ []) _ (entries b) i h (λ j g. joined-entry j (omega arith) false (F.before j g)) (joined-entry i h true (F.found h)) as_before whole
         ∙ ap (λ (l : List Permission). some (record { taken = permission_at b i; left = entry acc (variable_at b i) (field_at b i) ∷ []; list = l })) raised-entries)
 
-    pub read-joined : Adds (Rules.add_own read x f (state_of key b)) Answer.Done key raised
-    unfolding Rules.add_own Rules.add_read answered
+    pub read-joined : Adds (Rules.add_own read x f (state_of key b)) (Ok tt) key raised
+    unfolding Rules.add_own Rules.add_read answered refusal_of
     read-joined =
         record {
           wf = record { linked = same-linked key b raised w raised-size raised-rest; fit = omega (arith, raised-count, w.fit); kinds = raised-kinds };
           same = rw (first-joined, same-facts key b raised w raised-size raised-rest);
         }
+
+pub flagged : (c : ℕ) (apart : Bool) → c ≡ bool_byte apart → eqb c 1 ≡ apart
+flagged c true e = rw e
+flagged c false e = rw e
 
 -- one more fact, its flag and the count
 module _ (key b : List ℕ) (c l r : ℕ) (apart : Bool) (w : Wf key b) (h : facts b < most_facts) (key' b₁ : List ℕ) (e : eqb c 1 ≡ apart) (P : Pushed key b (left_sides + 2 * facts b) apart l r key' b₁) where
@@ -221,7 +228,7 @@ module _ (key b : List ℕ) (c l r : ℕ) (apart : Bool) (w : Wf key b) (h : fac
   last-two : entries counted-two ≡ entries b
   last-two = at-two entry_count (omega arith) (omega arith)
 
-  pub one-fact : Adds (Rules.add_fact (rel_of apart) (term_of l) (term_of r) (state_of key b)) Answer.Done key' counted-two
+  pub one-fact : Adds (Rules.add_fact (rel_of apart) (term_of l) (term_of r) (state_of key b)) (Ok tt) key' counted-two
   one-fact =
       room-facts key b _ _ _ key' counted-two h
       (record { linked = counted-linked two (facts b + 1) more-facts.size key' more-facts; fit = omega (arith, last-two, w.fit); kinds = kinds-same b counted-two (entries b) (entries counted-two) last-two (λ i g. at-two i (omega arith) (omega arith)) w.kinds })

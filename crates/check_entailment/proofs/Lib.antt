@@ -1,3 +1,4 @@
 pub mod Splits
+pub mod Refusals
 pub mod Showing
 pub mod Adding

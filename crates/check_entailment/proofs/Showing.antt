@@ -2,6 +2,7 @@
 use mathlib.Core.Path.{◌≡◌, refl, sym, ◌∙◌, subst}
 use mathlib.Core.Bool.{Bool, true, false, not, ◌&&◌}
 use mathlib.Core.List.{List}
+use Rattle.std.specs.Prelude.{Ok, Err}
 use mathlib.Core.Option.{none}
 use mathlib.Core.Logic.{inl, ⊎_elim}
 use Prim.Native.Nat.{ℕ, ◌-◌, ◌≤◌, ◌<◌}
@@ -11,19 +12,20 @@ use lib.ListN.{get_or, set, length-set}
 use lib.Seq.{get_or-set_same, get_or-set_other}
 use borrow.Author.Tests.{leb-true}
 use Rattle.rules.specs.Base.{Try, ok, no, ◌>>=◌, ◌>>◌, check}
-use Rattle.rules.specs.Answers.{Refusal, unresolved}
+use Rattle.rules.specs.Answers.{Refusal, not_shown}
 use Rattle.rules.specs.Syntax.{null, var, own, is_path}
-use Rattle.rules.specs.State.{Term, Permission, equal_in, holds_in, shown_by, take_own, show_from, resolve}
+use Rattle.rules.specs.State.{Term, Permission, equal_in, holds_in, shown_by, take_own, show_from}
 use Rattle.rules.proofs.Lists.{decide_eq}
 use Rattle.check_equality.specs.Keys.{term_of}
 use Rattle.check_equality.specs.Layout.{chain_kind}
 use Rattle.check_equality.specs.Links.{rel_of}
-use Rattle.check_state.specs.declared.Resolved.{Resolved}
-use Rattle.check_state.specs.States.{Wf, state_of, entries, kind_at, permissions_of, permit_of, IsKind}
-use Rattle.check_state.specs.Questions.{FirstPlace, entry_test, passes, in_range, resolved_as}
+use Rattle.check_state.specs.States.{Wf, state_of, entries, kind_at, permit_of, IsKind}
+use Rattle.check_state.specs.Questions.{FirstPlace, entry_test, passes, in_range}
 use Rattle.check_entries.specs.Entries.{LeftFits, left_of}
-use Rattle.check_entailment.specs.declared.Answer.{Answer}
-use Rattle.check_entailment.specs.Answers.{answered, most_serving, Takes, ShowsAtom, ShowsRelation}
+use Rattle.check_entailment.specs.declared.Refusal as Declared
+use Rattle.check_entailment.specs.declared.Refusal.TheVariants.{NotShown}
+use Rattle.check_entailment.specs.Answers.{Answer, refusal_of, answered, most_serving, Takes, ShowsAtom, sides_of, resolved_sides, ShowsRelation}
+use Rattle.check_entailment.proofs.Refusals.{by-sides}
 use Rattle.check_entailment.proofs.Splits.{of-kind, left-none, left-first}
 
 -- ACCESS
@@ -69,8 +71,8 @@ module _ (key b : List ℕ) (w : Wf key b) (left : List ℕ) (L : LeftFits b lef
       none_left : chain_kind ≤ kind_at b i → get_or left i 0 - want ≡ 0
       none_left c = ⊎_elim (λ e. omega arith) (λ e. taken-whole (get_or left i 0) (serving h).1 e) (L.whole i h c)
 
-  pub access-taken : i < entries b → Takes key b left want t f Answer.Done (set left i (get_or left i 0 - want))
-  unfolding take_own shown_by answered
+  pub access-taken : i < entries b → Takes key b left want t f (Ok tt) (set left i (get_or left i 0 - want))
+  unfolding take_own shown_by answered refusal_of
   access-taken h = rw (left-first b left (equal_in (state_of key b)) want t f (entries b) i k most F h (omega (arith, L.size, w.fit)))
 
   -- no entry serves
@@ -93,29 +95,18 @@ access-shown key b left want t y f a left' e A = A ∙ rw e (last (take_own (equ
 
 -- RELATIONS
 module _ (key b : List ℕ) (apart : Bool) (l r : Term) where
-  pub left-refused : resolve (equal_in (state_of key b)) (permissions_of b) l ≡ no unresolved → ShowsRelation key b apart l r Answer.Unresolved
-  unfolding show_from ◌>>=◌ answered
-  left-refused e kept = rw e
+  abbrev checked : List Permission → Term → Term → Try Refusal (List Permission)
+  checked kept t u = check (holds_in (equal_in (state_of key b)) (state_of key b) (rel_of apart) t u) not_shown >> ok kept
 
-  module _ (t : Term) (et : resolve (equal_in (state_of key b)) (permissions_of b) l ≡ ok t) where
-    pub right-refused : resolve (equal_in (state_of key b)) (permissions_of b) r ≡ no unresolved → ShowsRelation key b apart l r Answer.Unresolved
-    unfolding show_from ◌>>=◌ answered
-    right-refused e kept = rw (et, e)
+  pub relation-unresolved : (e : Declared.Refusal) → sides_of (Err e) ≡ resolved_sides (state_of key b) l r → ShowsRelation key b apart l r (Err e)
+  unfolding show_from answered sides_of ◌>>=◌
+  relation-unresolved e d kept = sym (by-sides (state_of key b) l r (checked kept) ∙ rw (← d))
 
-    module _ (u : Term) (eu : resolve (equal_in (state_of key b)) (permissions_of b) r ≡ ok u) where
-      pub relation-shown : true ≡ holds_in (equal_in (state_of key b)) (state_of key b) (rel_of apart) t u → ShowsRelation key b apart l r Answer.Done
-      unfolding show_from ◌>>=◌ ◌>>◌ check answered
-      relation-shown e kept = rw (et, eu, ← e)
+  module _ (t u : ℕ) (d : sides_of (Ok (t, u)) ≡ resolved_sides (state_of key b) l r) where
+    pub relation-shown : true ≡ holds_in (equal_in (state_of key b)) (state_of key b) (rel_of apart) (term_of t) (term_of u) → ShowsRelation key b apart l r (Ok tt)
+    unfolding show_from answered sides_of ◌>>=◌ ◌>>◌ check
+    relation-shown h kept = sym (by-sides (state_of key b) l r (checked kept) ∙ rw (← d, ← h))
 
-      pub relation-refused : false ≡ holds_in (equal_in (state_of key b)) (state_of key b) (rel_of apart) t u → ShowsRelation key b apart l r Answer.NotShown
-      unfolding show_from ◌>>=◌ ◌>>◌ check answered
-      relation-refused e kept = rw (et, eu, ← e)
-
--- RESOLVED
-pub nothing-resolved : (r : Resolved) → r ≡ Resolved.Nothing → resolved_as r ≡ no unresolved
-unfolding resolved_as
-nothing-resolved r e = rw e
-
-pub key-resolved : (r : Resolved) (k : ℕ) → r ≡ Resolved.Key k → resolved_as r ≡ ok (term_of k)
-unfolding resolved_as
-key-resolved r k e = rw e
+    pub relation-refused : false ≡ holds_in (equal_in (state_of key b)) (state_of key b) (rel_of apart) (term_of t) (term_of u) → ShowsRelation key b apart l r (Err NotShown)
+    unfolding show_from answered refusal_of sides_of ◌>>=◌ ◌>>◌ check
+    relation-refused h kept = sym (by-sides (state_of key b) l r (checked kept) ∙ rw (← d, ← h))

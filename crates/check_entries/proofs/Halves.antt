@@ -2,16 +2,14 @@
 use mathlib.Core.Path.{◌≡◌, refl, ap, ap₂, ◌∙◌}
 use mathlib.Core.Bool.{Bool, true, false, cond}
 use mathlib.Core.List.{List, [], ◌∷◌, ◌++◌}
-use mathlib.Core.Logic.{inl, inr, ⊎_elim}
+use mathlib.Core.Logic.{inl}
 use Prim.Native.Nat.{ℕ, zero, suc, ◌+◌, ◌≤◌, ◌<◌}
 use native.Mathlib.Omega.{arith}
 use lib.Dec.{eqb}
-use lib.ListN.{get_or, set, length-set}
-use lib.Seq.{get_or-set_same, get_or-set_other}
+use lib.ListN.{get_or}
 use borrow.Author.Tests.{ne_eqb}
 use Rattle.rules.specs.Limits.{most_permissions}
 use Rattle.rules.specs.State.{entry}
-use Rattle.rules.proofs.Lists.{decide_eq}
 use Rattle.check_equality.specs.Listing.{listed}
 use Rattle.check_equality.specs.Layout.{variables_at, fields_at, kinds_at}
 use Rattle.check_state.specs.States.{variable_at, field_at, kind_at, permit_of, permission_at, permissions_in, KindsIn}
@@ -40,23 +38,6 @@ unfolding entry_left
 all_left b left n e K =
     appended-same _ (λ i. permission_at b i ∷ []) n (λ i h. rw (e i h, ne_eqb (kind_at b i) 0 (λ d. omega (arith, (K i h).0, d))))
     ∙ appended-listed (permission_at b) n
-
--- one more kind stored
-pub stored_more :
-    (b₀ left : List ℕ) (i : ℕ) (b : List ℕ) (v : ℕ) → i < most_permissions → StoredLeft b₀ left i b → v ≡ kind_left (get_or left i 0) (kind_at b i) →
-    StoredLeft b₀ left (i + 1) (set b (kinds_at + i) v)
-stored_more b₀ left i b v h S e =
-    record {
-      size = length-set b (kinds_at + i) v ∙ S.size;
-      kinds = λ j g. ⊎_elim (λ d. rw d here) (λ d. other (kinds_at + j) (omega arith) ∙ S.kinds j (omega arith)) (decide_eq j i);
-      rest = λ j g. ⊎_elim (λ p. other j (omega arith) ∙ S.rest j (inl p)) (λ p. other j (omega arith) ∙ S.rest j (inr (omega arith))) g;
-    }
-  where
-    other : (j : ℕ) → (j ≡ kinds_at + i → ⊥) → get_or (set b (kinds_at + i) v) j 0 ≡ get_or b j 0
-    other j d = get_or-set_other b (kinds_at + i) j v 0 d
-
-    here : kind_at (set b (kinds_at + i) v) i ≡ kind_left (get_or left i 0) (kind_at b₀ i)
-    here = get_or-set_same b (kinds_at + i) v 0 (omega (arith, S.size)) ∙ e ∙ ap (kind_left (get_or left i 0)) (S.rest (kinds_at + i) (inr (omega arith)))
 
 -- the entries that are not out then are what is left
 pub stored-left :

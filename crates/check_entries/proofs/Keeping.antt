@@ -1,7 +1,7 @@
 -- Entries of which some are out.
 use mathlib.Core.Path.{◌≡◌, refl, sym, ap, ap₂, ◌∙◌, subst}
 use mathlib.Core.Bool.{Bool, true, false, cond, not, ◌&&◌, ◌||◌}
-use mathlib.Core.List.{List, [], ◌∷◌, ◌++◌, append-nil}
+use mathlib.Core.List.{List, [], ◌∷◌, ◌++◌}
 use mathlib.Core.Option.{Option, none, some}
 use mathlib.Core.Logic.{◌⊎◌, inl, inr, ⊎_elim}
 use Prim.Native.Nat.{ℕ, zero, suc, ◌+◌, ◌≤◌, ◌<◌}
@@ -19,7 +19,8 @@ use Rattle.check_equality.proofs.Listing.{listed_more, listed_same, any_append, 
 use Rattle.check_state.specs.States.{entries, variable_at, field_at, permit_of, permission_at, permissions_in, kind_at, IsKind, KindsIn}
 use Rattle.check_state.specs.Questions.{FirstPlace}
 use Rattle.check_state.proofs.Writing.{entry-same, entries-same}
-use Rattle.check_entries.specs.Entries.{kept, renamed_variable, RenamedEntries, SameEntry, KeepsEntry, Packed}
+use Rattle.check_equality.specs.Links.{picked}
+use Rattle.check_entries.specs.Entries.{kept, RenamedEntries, SameEntry, KeepsEntry, Packed}
 
 module _ {A : Type 0} where
   pub kept_more : (out : List Bool) (f : ℕ → A) (n : ℕ) → kept out f (n + 1) ≡ kept out f n ++ cond (get_or out n false) [] (f n ∷ [])
@@ -70,20 +71,9 @@ kept_map {B = B} g out f h (suc n) e =
     one o false d = rw d
 
 -- FLAGS
-pub flags-more :
-    (out : List Bool) (i : ℕ) (v : Bool) (test : ℕ → Bool) → i < length out → ((j : ℕ) → j < i → get_or out j false ≡ test j) → v ≡ test i →
-    (j : ℕ) → j < i + 1 → get_or (set out i v) j false ≡ test j
-flags-more out i v test h before e j g = ⊎_elim here there (decide_eq j i)
-  where
-    here : j ≡ i → get_or (set out i v) j false ≡ test j
-    here d = rw d (get_or-set_same out i v false h ∙ e)
-
-    there : (j ≡ i → ⊥) → get_or (set out i v) j false ≡ test j
-    there d = get_or-set_other out i j v false d ∙ before j (omega arith)
-
 -- ONE MORE ENTRY RENAMED
 pub renamed-more :
-    (x to : ℕ) (b₀ : List ℕ) (i : ℕ) (b : List ℕ) (v : ℕ) → i < most_permissions → RenamedEntries x to b₀ i b → v ≡ renamed_variable x to (variable_at b i) →
+    (x to : ℕ) (b₀ : List ℕ) (i : ℕ) (b : List ℕ) (v : ℕ) → i < most_permissions → RenamedEntries x to b₀ i b → v ≡ picked x to (variable_at b i) →
     RenamedEntries x to b₀ (i + 1) (set b (variables_at + i) v)
 renamed-more x to b₀ i b v h R e =
     record {
@@ -95,8 +85,8 @@ renamed-more x to b₀ i b v h R e =
     other : (j : ℕ) → (j ≡ variables_at + i → ⊥) → get_or (set b (variables_at + i) v) j 0 ≡ get_or b j 0
     other j d = get_or-set_other b (variables_at + i) j v 0 d
 
-    here : variable_at (set b (variables_at + i) v) i ≡ renamed_variable x to (variable_at b₀ i)
-    here = get_or-set_same b (variables_at + i) v 0 (omega (arith, R.size)) ∙ e ∙ ap (renamed_variable x to) (R.rest (variables_at + i) (inr (omega arith)))
+    here : variable_at (set b (variables_at + i) v) i ≡ picked x to (variable_at b₀ i)
+    here = get_or-set_same b (variables_at + i) v 0 (omega (arith, R.size)) ∙ e ∙ ap (picked x to) (R.rest (variables_at + i) (inr (omega arith)))
 
 -- ONE MORE ENTRY
 module _ (b : List ℕ) (n x f k : ℕ) (l : length b ≡ bytes) (h : n < most_permissions) where
@@ -165,17 +155,6 @@ module _ (b : List ℕ) (n x f k : ℕ) (l : length b ≡ bytes) (h : n < most_p
         later = λ j g s. entry_at j s (omega arith);
         rest = λ j g. ⊎_elim (λ p. entry_other j (omega arith) (omega arith) (omega arith)) (λ p. entry_other j (omega arith) (omega arith) (omega arith)) g;
       }
-
-pub drops_entry : (b : List ℕ) (n x f k : ℕ) → length b ≡ bytes → KeepsEntry b n true x f k b n
-drops_entry b n x f k l =
-    record {
-      few = omega arith;
-      size = l;
-      kinds = λ w ws. ws;
-      entries = sym (append-nil (permissions_in b n));
-      later = λ j g s. record { permission = refl; kind = refl };
-      rest = λ j g. refl;
-    }
 
 -- PACKED: the first i entries are, the others are as they were
 pub record Packing (b₀ : List ℕ) (out : List Bool) (i : ℕ) (b : List ℕ) (n : ℕ) : Type 0 where

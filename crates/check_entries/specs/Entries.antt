@@ -3,6 +3,7 @@ use Rattle.std.specs.Prelude.{◌≡◌, Bool, false, cond, List, [], ◌∷◌,
 use Rattle.rules.specs.Limits.{most_permissions}
 use Rattle.rules.specs.State.{Permission, entry}
 use Rattle.check_equality.specs.Layout.{variables_at, fact_count, kinds_at, bytes, chain_kind}
+use Rattle.check_equality.specs.Links.{picked}
 use Rattle.check_state.specs.States.{entries, variable_at, field_at, permit_of, permissions_in, permissions_of, permission_at, kind_at, IsKind, KindsIn}
 
 -- LISTS OF WHICH SOME ELEMENTS ARE OUT
@@ -53,14 +54,11 @@ pub record StoredLeft (b left : List ℕ) (n : ℕ) (b' : List ℕ) : Type 0 whe
 abbrev pub OutBy : List ℕ → ℕ → List Bool → Type 0
 OutBy left n out = Flags (λ i. eqb (get_or left i 0) 0) n out
 
-unfoldable pub renamed_variable : ℕ → ℕ → ℕ → ℕ
-renamed_variable x to v = cond (eqb v x) to v
-
 -- ENTRIES
 -- the variables of the first n renamed, and nothing else
 pub record RenamedEntries (x to : ℕ) (b : List ℕ) (n : ℕ) (b' : List ℕ) : Type 0 where
   pub size : length b' ≡ bytes
-  pub variables : (i : ℕ) → i < n → variable_at b' i ≡ renamed_variable x to (variable_at b i)
+  pub variables : (i : ℕ) → i < n → variable_at b' i ≡ picked x to (variable_at b i)
   pub rest : (i : ℕ) → (i < variables_at) ⊎ (variables_at + n ≤ i) → get_or b' i 0 ≡ get_or b i 0
 
 -- the entry i is what it was

@@ -3,24 +3,18 @@
 
 mod marks;
 
-ghost use Rattle.std.specs.Prelude.{◌≡◌, false, ◌+◌, ◌≤◌, ◌<◌, length, get_or, eqb};
+ghost use Rattle.std.specs.Prelude.{◌≡◌, Bool, false, ℕ, ◌+◌, ◌≤◌, ◌<◌, length, get_or, eqb};
 ghost use Rattle.rules.specs.Limits.{most_permissions};
 ghost use Rattle.rules.specs.Syntax.{same};
 ghost use Rattle.check_equality.specs.Layout.{bytes, variables_at};
 ghost use Rattle.check_equality.specs.Keys.{term_of};
 ghost use Rattle.check_state.specs.States.{entries, path_at_entry};
 ghost use Rattle.check_state.specs.Questions.{FirstPlace};
-ghost use Rattle.check_entries.specs.Entries.{KeepsEntry, RenamedEntries, Packed, Flags, StoredLeft, OutBy, renamed_variable, kind_left};
+ghost use Rattle.check_entries.specs.Entries.{KeepsEntry, RenamedEntries, Packed, Flags, StoredLeft, OutBy, kind_left};
 
 use check_equality::State;
 pub use marks::{drops_some, marks_out, names_dropped};
 use rules::Machine;
-
-fn rename_variable(v: u8, x: u8, to: u8) -> u8
-    ensures { result ≡ renamed_variable x to v }
-{
-    if v == x { to } else { v }
-}
 
 // x is renamed to the variable `to`.
 pub fn rename_entries(b: &mut [u8; State::BYTES], x: u8, to: u8)
@@ -28,11 +22,9 @@ pub fn rename_entries(b: &mut [u8; State::BYTES], x: u8, to: u8)
     ensures { RenamedEntries x to b.old (entries b.old) b.new }
 {
     let all = b[State::ENTRIES] as usize;
-    let mut i = 0;
-    while i < all {
+    for i in 0..all {
         let v = b[State::VARIABLES + i];
-        b[State::VARIABLES + i] = rename_variable(v, x, to);
-        i += 1;
+        b[State::VARIABLES + i] = check_equality::pick(v, x, to);
     }
 }
 
@@ -65,12 +57,10 @@ pub fn store_left(
     ensures { StoredLeft b.old left.now most_permissions b.new × OutBy left.now most_permissions result }
 {
     let mut out = [false; Machine::PERMISSIONS];
-    let mut i = 0;
-    while i < Machine::PERMISSIONS {
+    for i in 0..Machine::PERMISSIONS {
         let k = b[State::KINDS + i];
         b[State::KINDS + i] = kind_left(left[i], k);
         out[i] = left[i] == 0;
-        i += 1;
     }
     out
 }
@@ -80,12 +70,10 @@ pub fn first_out(out: &[bool; Machine::PERMISSIONS], n: usize) -> usize
     requires { n ≤ most_permissions }
     ensures { FirstPlace (λ i. get_or out.now i false) n result }
 {
-    let mut i = 0;
-    while i < n {
+    for i in 0..n {
         if out[i] {
             return i;
         }
-        i += 1;
     }
     n
 }
@@ -97,15 +85,26 @@ pub fn pack(b: &mut [u8; State::BYTES], out: &[bool; Machine::PERMISSIONS], firs
 {
     let all = b[State::ENTRIES] as usize;
     let mut n = first;
-    let mut i = first;
-    while i < all {
+    for i in first..all {
         let x = b[State::VARIABLES + i];
         let f = b[State::FIELDS + i];
         let k = b[State::KINDS + i];
         n = keep_entry(b, n, out[i], x, f, k);
-        i += 1;
     }
     b[State::ENTRIES] = n as u8;
+}
+
+// Which of the first n entries pass a test.
+fn flags<F: Fn(usize) -> bool>(n: usize, passes: F) -> [bool; Machine::PERMISSIONS]
+    requires few { n ≤ most_permissions }
+    requires callable { (i : ℕ) → i < n → F.pre passes i }
+    ensures { (test : ℕ → Bool) → ((i : ℕ) (r : Bool) → i < n → F.post passes i r → r ≡ test i) → Flags test n result }
+{
+    let mut out = [false; Machine::PERMISSIONS];
+    for i in 0..n {
+        out[i] = passes(i);
+    }
+    out
 }
 
 // Which entries are x's.
@@ -113,13 +112,7 @@ pub fn entries_of(b: &[u8; State::BYTES], n: usize, x: u8) -> [bool; Machine::PE
     requires { n ≤ most_permissions }
     ensures { Flags (λ i. eqb (get_or b.now (variables_at + i) 0) x) n result }
 {
-    let mut out = [false; Machine::PERMISSIONS];
-    let mut i = 0;
-    while i < n {
-        out[i] = b[State::VARIABLES + i] == x;
-        i += 1;
-    }
-    out
+    flags(n, |i| b[State::VARIABLES + i] == x)
 }
 
 // Which entries have the path of the key k.
@@ -127,11 +120,7 @@ pub fn entries_at(b: &[u8; State::BYTES], n: usize, k: u64) -> [bool; Machine::P
     requires { n ≤ most_permissions }
     ensures { Flags (λ i. same (term_of k) (path_at_entry b.now i)) n result }
 {
-    let mut out = [false; Machine::PERMISSIONS];
-    let mut i = 0;
-    while i < n {
-        out[i] = k == check_equality::path_key(b[State::VARIABLES + i], b[State::FIELDS + i]);
-        i += 1;
-    }
-    out
+    flags(n, |i| {
+        k == check_equality::path_key(b[State::VARIABLES + i], b[State::FIELDS + i])
+    })
 }

@@ -1,5 +1,5 @@
 // Which keys are those of listed paths that are out, by marks; and which of these are dropped: those that no other has.
-ghost use Rattle.std.specs.Prelude.{◌≡◌, cond, not, ◌&&◌, ◌≤◌};
+ghost use Rattle.std.specs.Prelude.{◌≡◌, Bool, cond, not, ◌&&◌, ◌≤◌};
 ghost use Rattle.rules.specs.Limits.{most_permissions};
 ghost use Rattle.rules.specs.Syntax.{path};
 ghost use Rattle.rules.specs.Base.{any};
@@ -20,40 +20,27 @@ fn path_out(out: bool, x: u8, f: u8, k: u64) -> bool
     false
 }
 
-// Is an entry a listed path and out (where `kept`: and not out), and its path the term of k?
-fn path_with(kept: bool, out: bool, listed: bool, x: u8, f: u8, k: u64) -> bool
-    ensures { result ≡ path_out (cond kept (not out) out && listed) x f k }
-{
-    if kept {
-        return path_out(!out & listed, x, f, k);
-    }
-    path_out(out & listed, x, f, k)
-}
-
-// Is a key that of a listed path that is out, or, where `kept`, of one that is not?
-fn names_with<'a>(
+// Is a key that of a listed path whose flag counts?
+fn names_with<'a, F: Fn(bool) -> bool>(
     b: &'a [u8; State::BYTES],
     out: &'a [bool; Machine::PERMISSIONS],
-    kept: bool,
+    counts: F,
     n: usize,
     k: u64,
 ) -> bool
-    requires { n ≤ most_permissions }
-    ensures { result ≡ any (path_with b.now out.now kept k) (places n) }
+    requires few { n ≤ most_permissions }
+    requires callable { F.IsAlwaysCallable counts }
+    ensures { (kept : Bool) → ((o r : Bool) → F.post counts o r → r ≡ cond kept (not o) o) → result ≡ any (path_with b.now out.now kept k) (places n) }
 {
-    let mut i = 0;
-    while i < n {
-        if path_with(
-            kept,
-            out[i],
-            b[State::KINDS + i] < State::CHAIN,
+    for i in 0..n {
+        if path_out(
+            counts(out[i]) & (b[State::KINDS + i] < State::CHAIN),
             b[State::VARIABLES + i],
             b[State::FIELDS + i],
             k,
         ) {
             return true;
         }
-        i += 1;
     }
     false
 }
@@ -68,11 +55,9 @@ pub fn marks_out<'a>(
     ensures { MarksOut b.now out.now n result }
 {
     let mut marks = [false; State::MARKS];
-    let mut i = 0;
-    while i < n {
+    for i in 0..n {
         let k = check_equality::path_key(b[State::VARIABLES + i], b[State::FIELDS + i]);
         check_equality::mark(&mut marks, out[i], k);
-        i += 1;
     }
     marks
 }
@@ -90,7 +75,7 @@ fn names_marked<'a>(
 {
     let p = check_equality::place(k);
     if marks[p] {
-        return names_with(b, out, false, n, k);
+        return names_with(b, out, |o| o, n, k);
     }
     false
 }
@@ -107,7 +92,7 @@ pub fn names_dropped<'a>(
     ensures { result ≡ (any (path_out_at b.now out.now k) (places n) && not (any (kept_names b.now out.now (term_of k)) (places n))) }
 {
     if names_marked(b, out, marks, n, k) {
-        return !names_with(b, out, true, n, k);
+        return !names_with(b, out, |o| !o, n, k);
     }
     false
 }
@@ -125,7 +110,7 @@ fn drops_entry<'a>(
     ensures { result ≡ (gone && not (any (kept_names b.now out.now (path x f)) (places n))) }
 {
     if gone {
-        return !names_with(b, out, true, n, check_equality::path_key(x, f));
+        return !names_with(b, out, |o| !o, n, check_equality::path_key(x, f));
     }
     false
 }
@@ -139,8 +124,7 @@ pub fn drops_some<'a>(
     requires { n ≤ most_permissions }
     ensures { result ≡ any (dropped_at b.now out.now n) (places n) }
 {
-    let mut i = 0;
-    while i < n {
+    for i in 0..n {
         if drops_entry(
             b,
             out,
@@ -151,7 +135,6 @@ pub fn drops_some<'a>(
         ) {
             return true;
         }
-        i += 1;
     }
     false
 }

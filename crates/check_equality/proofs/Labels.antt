@@ -1,67 +1,22 @@
 -- Labels keep deciding ~ as slots and facts are added.
 use mathlib.Core.Path.{◌≡◌, refl, sym, ap, ◌∙◌, subst}
-use mathlib.Core.Bool.{Bool, true, false, cond, ◌||◌}
+use mathlib.Core.Bool.{Bool, true, false, cond}
 use mathlib.Core.List.{List, [], ◌∷◌, ◌++◌}
 use mathlib.Core.Logic.{◌⊎◌, inl, inr, ⊎_elim}
 use Prim.Native.Nat.{ℕ, ◌+◌, ◌≤◌, ◌<◌}
 use native.Mathlib.Omega.{arith}
-use lib.Dec.{T, eqb, ltb}
+use lib.Dec.{T, eqb}
 use lib.ListN.{length, get_or, set, length-set}
 use lib.Seq.{get_or-set_same, get_or-set_other}
-use borrow.Author.Tests.{eq-eqb, ne_eqb, eqb-true, eqb-false, ltb-true, ltb-false}
+use borrow.Author.Tests.{eq-eqb, ne_eqb, eqb-true, eqb-false}
 use Rattle.rules.specs.Syntax.{eq, ne, same}
 use Rattle.rules.specs.State.{Term, Fact, representative, equal_by}
 use Rattle.rules.proofs.Closure.{Listed, Equivalence, linked-least, here, there, listed, linked→representative, representative→linked, same→≡, same_refl}
 use Rattle.rules.proofs.Lists.{decide_eq, T_true, F-false}
-use Rattle.check_equality.specs.Layout.{slots, left_sides, mark_count}
+use Rattle.check_equality.specs.Layout.{slots, mark_count}
 use Rattle.check_equality.specs.Keys.{term_of}
-use Rattle.check_equality.specs.Links.{term_at, Header, HasLabel, Missing, Past, no_label, Labelled, Alike, Together, Decides, Merged, Joined, LinkedUnless, Slotted, Pushed, Marked, place_of, picked, rel_of, fact_of, alike_by, left_new, right_new, both_known}
+use Rattle.check_equality.specs.Links.{term_at, Header, HasLabel, Labelled, Alike, Together, Decides, Merged, Joined, LinkedUnless, Slotted, Pushed, Marked, place_of, picked, rel_of, fact_of, alike_by, left_new, right_new, both_known}
 use Rattle.check_equality.proofs.Keys.{one_key}
-
-pub not-in-header : (key : List ℕ) (k : ℕ) → Header key → 15 ≤ k → (k ≡ 256 → ⊥) → (i : ℕ) → i < 16 → get_or key i 0 ≡ k → ⊥
-not-in-header key k H h n i g e =
-    ⊎_elim (λ d. n (sym e ∙ ap (λ (j : ℕ). get_or key j 0) d ∙ H.null)) (λ d. omega (arith, H.variables i (omega arith))) (decide_eq i 15)
-
-in-header : (i : ℕ) → (i < left_sides) ⊎ (left_sides ≤ i)
-in-header i = go (ltb i left_sides) refl
-  where
-    go : (c : Bool) → ltb i left_sides ≡ c → (i < left_sides) ⊎ (left_sides ≤ i)
-    go true d = inl (ltb-true i left_sides d)
-    go false d = inr (ltb-false i left_sides d)
-
--- NO SLOT YET
-pub past_first : (key : List ℕ) (m k : ℕ) → left_sides ≤ m → Past key m k left_sides
-past_first key m k h = record { some = omega arith; most = h; nowhere = λ i g l. absurd (omega arith) }
-
-none_of : (a b c d : Bool) → (((a || b) || c) || d) ≡ false → (a ≡ false) × (b ≡ false) × (c ≡ false) × (d ≡ false)
-none_of false false false false e = (refl, refl, refl, refl)
-none_of false false false true e = absurd (let z : ◌≡◌ {A = ℕ} 0 1 = cc in omega arith)
-none_of false false true d e = absurd (let z : ◌≡◌ {A = ℕ} 0 1 = cc in omega arith)
-none_of false true c d e = absurd (let z : ◌≡◌ {A = ℕ} 0 1 = cc in omega arith)
-none_of true b c d e = absurd (let z : ◌≡◌ {A = ℕ} 0 1 = cc in omega arith)
-
-pub past_more :
-    (key : List ℕ) (m k i : ℕ) → Past key m k i → i + 4 ≤ m →
-    (((eqb (get_or key i 0) k || eqb (get_or key (i + 1) 0) k) || eqb (get_or key (i + 2) 0) k) || eqb (get_or key (i + 3) 0) k) ≡ false →
-    Past key m k (i + 4)
-past_more key m k i P h e = record { some = omega (arith, P.some); most = h; nowhere = at }
-  where
-    is-not : (j c : ℕ) → eqb (get_or key c 0) k ≡ false → j ≡ c → get_or key j 0 ≡ k → ⊥
-    is-not j c f d x = eqb-false (get_or key c 0) k f (ap (λ (z : ℕ). get_or key z 0) (sym d) ∙ x)
-
-    at : (j : ℕ) → left_sides ≤ j → j < i + 4 → get_or key j 0 ≡ k → ⊥
-    at j g l x =
-        let (a, b, c, d) = none_of (eqb (get_or key i 0) k) (eqb (get_or key (i + 1) 0) k) (eqb (get_or key (i + 2) 0) k) (eqb (get_or key (i + 3) 0) k) e in
-        ⊎_elim (λ z. is-not j i a z x)
-        (λ n₀. ⊎_elim (λ z. is-not j (i + 1) b z x)
-        (λ n₁. ⊎_elim (λ z. is-not j (i + 2) c z x)
-        (λ n₂. ⊎_elim (λ z. is-not j (i + 3) d z x) (λ n₃. P.nowhere j g (omega arith) x) (decide_eq j (i + 3)))
-        (decide_eq j (i + 2)))
-        (decide_eq j (i + 1)))
-        (decide_eq j i)
-
-pub past_all : (key : List ℕ) (m k r : ℕ) → Missing key left_sides k no_label → Past key m k r → Missing key r k no_label
-past_all key m k r M P = record { nowhere = λ i h e. ⊎_elim (λ g. M.nowhere i g e) (λ g. P.nowhere i g h e) (in-header i); shown = refl }
 
 -- ONE MORE FACT
 pub record Ends (f : Fact) (t u : Term) : Type 0 where
@@ -348,9 +303,6 @@ header-set key m k H h =
       null = get_or-set_other key m 15 k 0 (omega arith) ∙ H.null;
     }
 
-pub header_of_lem : (key key' : List ℕ) (m k : ℕ) → key' ≡ set key m k → Header key → 16 ≤ m → Header key'
-header_of_lem key key' m k e H h = rw e (header-set key m k H h)
-
 pub slotted :
     (key label : List ℕ) (m k l n : ℕ) → m < slots → m < length key → m < length label → Labelled key label m k l →
     n ≡ cond (eqb l 255) m l → Slotted key label m k (set key m k) (set label m n)
@@ -485,15 +437,3 @@ marked_more key key' marks m k p e h q M =
 
     there : (i : ℕ) → 16 ≤ i → i < m + 1 → (i ≡ m → ⊥) → get_or (set marks p true) (place_of (get_or (set key m k) i 0)) false ≡ true
     there i g s d = rw (get_or-set_other key m i k 0 d) (on _ (M.at i g (omega arith)))
-
-pub unmarked :
-    (key : List ℕ) (marks : List Bool) (m k : ℕ) → Header key → 15 ≤ k → (k ≡ 256 → ⊥) → Marked key marks m →
-    get_or marks (place_of k) false ≡ false → Missing key m k 255
-unmarked key marks m k H h n M e =
-    record {
-      nowhere = λ i g d. ⊎_elim (λ x. not-in-header key k H h n i x d) (λ x. clash (sym (ap (λ (j : ℕ). get_or marks (place_of j) false) d) ∙ M.at i x g) e) (in-header i);
-      shown = refl;
-    }
-  where
-    clash : {x : Bool} → x ≡ true → x ≡ false → ⊥
-    clash p q = let z : ◌≡◌ {A = ℕ} 0 1 = cc in omega arith

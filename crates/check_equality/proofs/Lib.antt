@@ -1,4 +1,3 @@
 pub mod Keys
 pub mod Listing
 pub mod Labels
-pub mod Marking

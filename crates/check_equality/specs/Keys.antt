@@ -4,10 +4,6 @@ use Rattle.rules.specs.Syntax as Syntax
 use Rattle.rules.specs.Syntax.{num, null, var, path}
 use Rattle.check_equality.specs.declared.Term.{Term}
 
--- how many values a byte has
-abbrev pub byte_values : ℕ
-byte_values = 256
-
 abbrev pub null_key : ℕ
 null_key = 256
 

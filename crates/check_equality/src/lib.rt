@@ -9,7 +9,7 @@ ghost use Rattle.std.specs.Prelude.{◌≡◌};
 ghost use Rattle.check_equality.specs.Layout.{offsets};
 
 pub use marks::{mark, place, push_marked};
-pub use slots::{alike, label_of, push};
+pub use slots::{alike, label_of, pick, push};
 pub use terms::{key_of, path_key, variable_key};
 
 // The checker's state stands in two arrays: the keys of its slots; and bytes, which are the slots' labels, and what is known besides.
@@ -89,7 +89,7 @@ impl State {
 
     pub const FIRST_NUMBER: u64 = 65793;
 
-    // The label of a term that has no slot.
+    // The label of a term that has no slot. A byte and no Option: it is compared with the labels in the state, and is none of them.
     pub const NO_LABEL: u8 = 255;
 
     pub const VARIABLE_COUNT: u8 = 15;
@@ -101,6 +101,7 @@ impl State {
 
     pub const RESULT: u8 = 14;
 
+    // No variable. A byte and no Option: it is compared with variables alone, and is none of them.
     pub const NO_VARIABLE: u8 = 255;
 
     pub fn offsets() -> State

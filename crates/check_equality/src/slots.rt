@@ -2,7 +2,7 @@
 // one for each slot; what stands after them stays as it is.
 ghost use Rattle.std.specs.Prelude.{◌≡◌, cond, ◌||◌, eqb, ◌+◌, ◌≤◌, ◌<◌, length};
 ghost use Rattle.check_equality.specs.Layout.{slots, bytes, left_sides};
-ghost use Rattle.check_equality.specs.Links.{Header, Labelled, Missing, Past, Merged, Joined, LinkedUnless, Slotted, Pushed, picked, alike_by, no_label};
+ghost use Rattle.check_equality.specs.Links.{Header, Labelled, Missing, Past, Merged, Joined, LinkedUnless, Slotted, Pushed, alike_by, no_label};
 
 use crate::State;
 
@@ -21,14 +21,14 @@ fn past(key: &[u64; State::SLOTS], m: usize, k: u64) -> usize
     requires { (left_sides ≤ m) × (m ≤ slots) }
     ensures { Past key.now m k result }
 {
-    let mut i = State::LEFT;
-    while i + BLOCK <= m {
+    let blocks = (m - State::LEFT) / BLOCK;
+    for n in 0..blocks {
+        let i = State::LEFT + n * BLOCK;
         if one_of(key[i], key[i + 1], key[i + 2], key[i + 3], k) {
             return i;
         }
-        i += BLOCK;
     }
-    i
+    State::LEFT + blocks * BLOCK
 }
 
 // The label of the slot from LEFT on that holds the key.
@@ -41,12 +41,10 @@ pub fn label_from<'a>(
     requires { (left_sides ≤ m) × (m ≤ slots) × Missing key.now left_sides k no_label }
     ensures { Labelled key.now label.now m k result }
 {
-    let mut i = past(key, m, k);
-    while i < m {
+    for i in past(key, m, k)..m {
         if key[i] == k {
             return label[i];
         }
-        i += 1;
     }
     State::NO_LABEL
 }
@@ -71,8 +69,9 @@ pub fn label_of<'a>(
     label_from(key, label, m, k)
 }
 
-fn pick(l: u8, from: u8, to: u8) -> u8
-    ensures { result ≡ picked from to l }
+// A value, or `to` where it is `from`.
+pub fn pick<T: Copy + PartialEq>(l: T, from: T, to: T) -> T
+    ensures { result ≡ cond (T.eq l from) to l }
 {
     if l == from { to } else { l }
 }
@@ -82,11 +81,8 @@ fn merge(label: &mut [u8; State::BYTES], from: u8, to: u8)
     requires { length label.old ≡ bytes }
     ensures { Merged from to label.old label.new }
 {
-    let mut i = 0;
-    while i < State::SLOTS {
-        let l = label[i];
-        label[i] = pick(l, from, to);
-        i += 1;
+    for i in 0..State::SLOTS {
+        label[i] = pick(label[i], from, to);
     }
 }
 

@@ -25,7 +25,8 @@ use Rattle.check_state.specs.States.{Wf, state_of, entries, facts_of, variable_a
 use Rattle.check_successors.specs.Successors.{Drops}
 use Rattle.check_forgetting.specs.Changes.{Becomes, without_path}
 use Rattle.check_dropping.specs.Dropping.{Forgettable, Forgot, Renamed}
-use Rattle.check_entries.specs.Entries.{RenamedEntries, Packed, Flags, renamed_variable, kept}
+use Rattle.check_equality.specs.Links.{picked}
+use Rattle.check_entries.specs.Entries.{RenamedEntries, Packed, Flags, kept}
 use Rattle.check_scans.specs.Sides.{renamed_key, mentions_key}
 use Rattle.check_scans.proofs.Renaming.{gone-term, renamed-term}
 use Rattle.check_entries.proofs.Keeping.{kept_same, kept-all, kept_map}
@@ -67,7 +68,7 @@ module _ (key b key₁ b₁ : List ℕ) (w : Wf key b) (w₁ : Wf key₁ b₁) (
     renamed-facts = same-facts key₁ b₁ b₂ (w₁) E.size low
 
     entry_new : (i : ℕ) → i < entries b → rename_permission x (some to) (permission_at b i) ≡ some (permission_at b₂ i)
-    unfolding rename_permission rename_variable renamed_variable bind_option
+    unfolding rename_permission rename_variable picked bind_option
     entry_new i h =
         ap (rename_permission x (some to)) (sym (as_before i h)) ∙ go (eqb (variable_at b₁ i) x)
         ∙ sym (rw (E.variables i (omega (arith, count)), above kinds_at i (omega (arith, w₁.fit)), above fields_at i (omega (arith, w₁.fit))))

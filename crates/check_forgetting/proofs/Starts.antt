@@ -1,14 +1,14 @@
 -- The state that knows nothing.
 use mathlib.Core.Path.{◌≡◌, sym, ap₂, ◌∙◌, subst}
 use mathlib.Core.List.{List}
-use Prim.Native.Nat.{ℕ, ◌<◌}
+use Prim.Native.Nat.{ℕ}
 use native.Mathlib.Omega.{arith}
 use lib.ListN.{length, get_or, set, length-set}
 use lib.Seq.{get_or-set_same, get_or-set_other}
 use Rattle.rules.specs.State as Rules
 use Rattle.check_equality.specs.Listing.{listed}
 use Rattle.check_equality.specs.Links.{Header}
-use Rattle.check_equality.specs.Layout.{slots, fact_count, entry_count, bytes}
+use Rattle.check_equality.specs.Layout.{fact_count, entry_count, bytes}
 use Rattle.check_state.specs.States.{facts_in, permissions_in, facts, entries, Linked}
 use Rattle.check_labels.specs.Facts.{Fresh}
 use Rattle.check_labels.proofs.FreshLabels.{fresh-linked}
@@ -38,11 +38,3 @@ module _ (key b b' : List ℕ) (H : Header key) (l : length b ≡ bytes) (F : Fr
         wf = record { linked = subst (λ (n : ℕ). Linked key done n) (sym none) (fresh-linked key done H size (λ i h. at i (omega arith) (omega arith) ∙ F.own i h)); fit = omega (arith, last); kinds = λ i h. absurd (omega (arith, last)) };
         same = ap₂ (λ (n m : ℕ). record { permissions = permissions_in done n; facts = facts_in key done m }) last none;
       }
-
-pub header-from : (key : List ℕ) → length key ≡ slots → ((i : ℕ) → i < 15 → get_or key i 0 ≡ i) → Header (set key 15 256)
-header-from key l own =
-    record {
-      size = length-set key 15 256 ∙ l;
-      variables = λ i h. get_or-set_other key 15 i 256 0 (omega arith) ∙ own i h;
-      null = get_or-set_same key 15 256 0 (omega arith);
-    }

@@ -18,7 +18,6 @@ ghost use Rattle.rules.specs.State as Rules;
 ghost use Rattle.check_equality.specs.Keys.{term_of};
 
 use check_equality::State;
-use check_state::Resolved;
 use rules::Machine;
 
 // The keys of a state that knows nothing: in the slots before the facts' the variables and null.
@@ -26,10 +25,8 @@ pub fn header() -> [u64; State::SLOTS]
     ensures { Header result }
 {
     let mut key = [0; State::SLOTS];
-    let mut i = 0;
-    while i < State::NULL {
+    for i in 0..State::NULL {
         key[i] = i as u64;
-        i += 1;
     }
     key[State::NULL] = State::NULL_KEY;
     key
@@ -128,15 +125,14 @@ fn replace(key: &mut [u64; State::SLOTS], b: &mut [u8; State::BYTES], x: u8, to:
     check_entries::rename_entries(b, x, to);
 }
 
-// The state with `to` in the place of x, or, where that is NO_VARIABLE, without x.
-pub fn remove_to(key: &mut [u64; State::SLOTS], b: &mut [u8; State::BYTES], x: u8, to: u8)
+// The state with `to` in the place of x, or without x.
+pub fn remove_to(key: &mut [u64; State::SLOTS], b: &mut [u8; State::BYTES], x: u8, to: Option<u8>)
     requires { Wf key.old b.old }
     ensures { Becomes (Rules.remove_to x (variable_or to) (state_of key.old b.old)) key.new b.new }
 {
-    if to == State::NO_VARIABLE {
-        erase(key, b, x);
-    } else {
-        replace(key, b, x, to);
+    match to {
+        Some(y) => replace(key, b, x, y),
+        None => erase(key, b, x),
     }
 }
 
@@ -149,7 +145,12 @@ pub fn remove(key: &mut [u64; State::SLOTS], b: &mut [u8; State::BYTES], x: u8)
 }
 
 // What becomes of a term that names x, where x and its paths are dropped: its successor.
-fn gives_way<'a>(key: &'a [u64; State::SLOTS], b: &'a [u8; State::BYTES], k: u64, x: u8) -> Resolved
+fn gives_way<'a>(
+    key: &'a [u64; State::SLOTS],
+    b: &'a [u8; State::BYTES],
+    k: u64,
+    x: u8,
+) -> Option<u64>
     requires { Wf key.now b.now }
     ensures { mentions_key x k ≡ true → term_or result ≡ Rules.removed_term x none (state_of key.now b.now) (term_of k) }
 {
@@ -161,29 +162,34 @@ fn gives_way<'a>(key: &'a [u64; State::SLOTS], b: &'a [u8; State::BYTES], k: u64
 }
 
 // What becomes of a term where x and its paths are dropped.
-fn left_over<'a>(key: &'a [u64; State::SLOTS], b: &'a [u8; State::BYTES], k: u64, x: u8) -> Resolved
+fn left_over<'a>(
+    key: &'a [u64; State::SLOTS],
+    b: &'a [u8; State::BYTES],
+    k: u64,
+    x: u8,
+) -> Option<u64>
     requires { Wf key.now b.now }
     ensures { term_or result ≡ Rules.removed_term x none (state_of key.now b.now) (term_of k) }
 {
     if check_scans::mentions(k, x) {
         return gives_way(key, b, k, x);
     }
-    Resolved::Key(k)
+    Some(k)
 }
 
-// What becomes of a term where `to` takes the place of x, or, where that is NO_VARIABLE, x and its paths are dropped.
+// What becomes of a term where `to` takes the place of x, or x and its paths are dropped.
 pub fn removed<'a>(
     key: &'a [u64; State::SLOTS],
     b: &'a [u8; State::BYTES],
     k: u64,
     x: u8,
-    to: u8,
-) -> Resolved
+    to: Option<u8>,
+) -> Option<u64>
     requires { Wf key.now b.now }
     ensures { term_or result ≡ Rules.removed_term x (variable_or to) (state_of key.now b.now) (term_of k) }
 {
-    if to == State::NO_VARIABLE {
-        return left_over(key, b, k, x);
+    match to {
+        Some(y) => Some(check_scans::rename(k, x, y)),
+        None => left_over(key, b, k, x),
     }
-    Resolved::Key(check_scans::rename(k, x, to))
 }

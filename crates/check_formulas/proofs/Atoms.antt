@@ -2,6 +2,7 @@
 use mathlib.Core.Path.{◌≡◌, refl, sym, ap, ap₂, ◌∙◌}
 use mathlib.Core.Bool.{Bool, true, false, not, cond}
 use mathlib.Core.List.{List, [], ◌∷◌, map}
+use Rattle.std.specs.Prelude.{Ok, Err}
 use mathlib.Core.Logic.{inr}
 use Prim.Native.Nat.{ℕ, suc, ◌+◌, ◌-◌, ◌≤◌, ◌<◌}
 use native.Mathlib.Omega.{arith}
@@ -22,8 +23,8 @@ use Rattle.check_state.specs.States.{Wf, state_of, entries, kind_at, permissions
 use Rattle.check_state.specs.Questions.{Bytes}
 use Rattle.check_entries.specs.Entries.{LeftFits, left_of}
 use Rattle.check_entries.proofs.Halves.{all_left}
-use Rattle.check_entailment.specs.declared.Answer.{Answer}
-use Rattle.check_entailment.specs.Answers.{answered, ShowsAtom, Adds, AddsAtom}
+use Rattle.check_entailment.specs.declared.Refusal as Declared
+use Rattle.check_entailment.specs.Answers.{Answer, answered, ShowsAtom, Adds, AddsAtom}
 use Rattle.check_formulas.specs.Formulas.{actual_atom, formula, Shows, Showing}
 
 -- `eq` by its number
@@ -67,21 +68,6 @@ module _ (w : List ℕ) (y z x : ℕ) where
       let e : a + 0 ≡ a = omega arith in
       let d : n - 0 ≡ n = omega arith in
       ap₂ (λ (k m : ℕ). formula w y z x k m) e d
-
--- ANSWERS
-pub not_done :
-    {A B : Type 0} (k : Answer) → (k ≡ Answer.Done → ⊥) → (a : A) (f : A → Try Refusal B) (b : B) → (answered k a >>= f) ≡ answered k b
-unfolding answered ◌>>=◌
-not_done Answer.Done o a f b = absurd (o refl)
-not_done Answer.Unresolved o a f b = refl
-not_done Answer.NoPermission o a f b = refl
-not_done Answer.NotShown o a f b = refl
-not_done Answer.Full o a f b = refl
-not_done Answer.Malformed o a f b = refl
-
-pub is_done : {A B : Type 0} (k : Answer) → k ≡ Answer.Done → (a : A) (f : A → Try Refusal B) → (answered k a >>= f) ≡ f a
-unfolding answered ◌>>=◌
-is_done k e a f = rw e
 
 -- ONE ATOM AND THE OTHERS
 pub bind-bind :
@@ -134,30 +120,36 @@ show-start w y z x a n key b left W B =
     (start_left key b left W B)
 
 module _ (key b : List ℕ) (φ rest : Formula ℕ) (left : List ℕ) (S : Showing key b φ rest left) where
-  module _ (a : Atom ℕ) (more : Formula ℕ) (e : rest ≡ a ∷ more) (k : Answer) (left' : List ℕ) (A : ShowsAtom key b left a k left') where
-    on : (answered k (left_of b left') >>= λ d. show_from (equal_in (state_of key b)) (state_of key b) more d) ≡ Rules.show (state_of key b) φ
-    on =
+  module _ (a : Atom ℕ) (more : Formula ℕ) (e : rest ≡ a ∷ more) (left' : List ℕ) where
+    on :
+        (k : Answer) → ShowsAtom key b left a k left' →
+        (answered k (left_of b left') >>= λ d. show_from (equal_in (state_of key b)) (state_of key b) more d) ≡ Rules.show (state_of key b) φ
+    on k A =
         ap (λ (t : Try Refusal (List Permission)). t >>= λ d. show_from (equal_in (state_of key b)) (state_of key b) more d) A
         ∙ sym (show-on (equal_in (state_of key b)) (state_of key b) a more (left_of b left)) ∙ rw (← e) S
 
-    pub show-more : k ≡ Answer.Done → Showing key b φ more left'
-    show-more d = sym (is_done k d _ _) ∙ on
+    pub show-more : ShowsAtom key b left a (Ok tt) left' → Showing key b φ more left'
+    unfolding answered ◌>>=◌
+    show-more A = on (Ok tt) A
 
-    pub show-refused : (k ≡ Answer.Done → ⊥) → Shows key b φ k left'
-    show-refused o = sym (not_done k o _ _ (left_of b left')) ∙ on
+    pub show-refused : (r : Declared.Refusal) → ShowsAtom key b left a (Err r) left' → Shows key b φ (Err r) left'
+    unfolding answered ◌>>=◌
+    show-refused r A = on (Err r) A
 
-  pub show-end : rest ≡ [] → Shows key b φ Answer.Done left
+  pub show-end : rest ≡ [] → Shows key b φ (Ok tt) left
   unfolding show_from answered
   show-end e = rw e at S
 
 -- ADDING
-module _ (key b : List ℕ) (a : Atom ℕ) (k : Answer) (key' b' : List ℕ) (A : AddsAtom key b a k key' b') (rest more : Formula ℕ) (e : rest ≡ a ∷ more) where
-  pub add-more : k ≡ Answer.Done → Rules.add rest (state_of key b) ≡ Rules.add more (state_of key' b')
-  add-more d = rw e (add-on a more (state_of key b) ∙ rw (← A.same) (is_done k d _ _))
+module _ (key b : List ℕ) (a : Atom ℕ) (key' b' : List ℕ) (rest more : Formula ℕ) (e : rest ≡ a ∷ more) where
+  pub add-more : AddsAtom key b a (Ok tt) key' b' → Rules.add rest (state_of key b) ≡ Rules.add more (state_of key' b')
+  unfolding answered ◌>>=◌
+  add-more A = rw e (add-on a more (state_of key b) ∙ rw (← A.same))
 
-  pub add-refused : (k ≡ Answer.Done → ⊥) → Adds (Rules.add rest (state_of key b)) k key' b'
-  add-refused o = record { wf = A.wf; same = sym (rw e (add-on a more (state_of key b) ∙ rw (← A.same) (not_done k o _ _ (state_of key' b')))) }
+  pub add-refused : (r : Declared.Refusal) → AddsAtom key b a (Err r) key' b' → Adds (Rules.add rest (state_of key b)) (Err r) key' b'
+  unfolding answered ◌>>=◌
+  add-refused r A = record { wf = A.wf; same = sym (rw e (add-on a more (state_of key b) ∙ rw (← A.same))) }
 
-pub add-end : (key b : List ℕ) (rest : Formula ℕ) → Wf key b → rest ≡ [] → Adds (Rules.add rest (state_of key b)) Answer.Done key b
+pub add-end : (key b : List ℕ) (rest : Formula ℕ) → Wf key b → rest ≡ [] → Adds (Rules.add rest (state_of key b)) (Ok tt) key b
 unfolding Rules.add answered
 add-end key b rest w e = record { wf = w; same = rw e }

@@ -6,41 +6,23 @@ ghost use Rattle.rules.specs.Limits.{work_bytes, most_permissions};
 ghost use Rattle.rules.specs.State as Rules;
 ghost use Rattle.rules.specs.Rules.{subst_term};
 ghost use Rattle.rules.specs.Rules as Rule;
-ghost use Rattle.tables.specs.Layout.{most_atom_rows};
-ghost use Rattle.tables.specs.Decode.{expr_at, left_at, right_at, acc_variable_at, acc_field_at, permit_of};
+ghost use Rattle.tables.specs.Layout.{most_atom_rows, atom_bytes};
+ghost use Rattle.tables.specs.Decode.{byte_at, expr_at, left_at, right_at, atom_place, permit_of};
 ghost use Rattle.check_equality.specs.Keys.{meaning};
 ghost use Rattle.check_state.specs.States as States;
 ghost use Rattle.check_state.specs.States.{Wf, state_of, kind_at, IsKind};
 ghost use Rattle.check_state.specs.Questions.{Bytes};
 ghost use Rattle.check_entries.specs.Entries.{LeftFits};
 ghost use Rattle.check_entailment.specs.Answers.{Adds, ShowsAtom, AddsAtom};
-ghost use Rattle.check_formulas.specs.Formulas.{side_bytes, formula, actual_atom, Shows};
+ghost use Rattle.check_formulas.specs.Formulas.{side_bytes, formula, actual_atom, atom_of, KindFits, Shows};
 
-use check_entailment::Answer;
+use check_entailment::Refusal;
 use check_equality::{State, Term};
 use rules::Machine;
-use tables::{AtomKind, Layout};
-
-// An atom of the tables: its kind (`AtomKind`), the tags of its sides, and the sides.
-const LEFT_TAG: usize = 1;
-
-const RIGHT_TAG: usize = 2;
-
-const LEFT: usize = 4;
-
-const RIGHT: usize = 8;
-
-// The field of a path on the left.
-const LEFT_FIELD: usize = 5;
-
-// A side: a number, null, a variable, or else a path, whose field comes after its variable.
-const NUMBER: usize = 0;
-
-const NULL: usize = 1;
-
-const VARIABLE: usize = 2;
+use tables::{AtomAt, AtomKind, Layout, SideTag};
 
 // The variable v of a formula, with y, z and x for `this`, w and `result`.
+#[tactic(auto, unfolding(rules::specs::Rules::actual))]
 fn actual(y: u8, z: u8, x: u8, v: u8) -> u8
     ensures { result ≡ Rule.actual y z x v }
 {
@@ -52,58 +34,42 @@ fn actual(y: u8, z: u8, x: u8, v: u8) -> u8
     }
 }
 
-// The side of an atom that stands at i.
-fn side(w: &[u8], tag: usize, i: usize, y: u8, z: u8, x: u8) -> Term
-    requires { i + side_bytes ≤ length w.now }
-    ensures { meaning result ≡ subst_term (Rule.actual y z x) (expr_at w.now tag i) }
+// The side of the atom a that stands at `first` in it, and its tag at `tag`.
+#[tactic(auto, unfolding(check_equality::specs::Keys::meaning, rules::specs::Rules::subst_term, tables::specs::Decode::expr_at))]
+fn side(w: &[u8], a: usize, tag: usize, first: usize, y: u8, z: u8, x: u8) -> Term
+    requires { (length w.now ≡ work_bytes) × (a < most_atom_rows) × (tag < atom_bytes) × (first + side_bytes ≤ atom_bytes) }
+    ensures { meaning result ≡ subst_term (Rule.actual y z x) (expr_at w.now (byte_at w.now (atom_place a + tag)) (atom_place a + first)) }
 {
-    match tag {
-        NUMBER => Term::Num(tables::word_at(w, i)),
-        NULL => Term::Null,
-        VARIABLE => Term::Var(actual(y, z, x, w[i])),
+    let at = Layout::ATOMS + a * Layout::ATOM_BYTES;
+    let i = at + first;
+    match tables::byte_at(w, at + tag) {
+        SideTag::NUM => Term::Num(tables::word_at(w, i)),
+        SideTag::NULL => Term::Null,
+        SideTag::VAR => Term::Var(actual(y, z, x, w[i])),
         _ => Term::Path(actual(y, z, x, w[i]), w[i + 1]),
     }
 }
 
 // The left side of the atom a.
+#[tactic(auto, unfolding(tables::specs::Decode::left_at))]
 pub fn left(w: &[u8], a: usize, y: u8, z: u8, x: u8) -> Term
     requires { (length w.now ≡ work_bytes) × (a < most_atom_rows) }
     ensures { meaning result ≡ subst_term (Rule.actual y z x) (left_at w.now a) }
 {
-    let i = Layout::ATOMS + a * Layout::ATOM_BYTES;
-    let tag = tables::byte_at(w, i + LEFT_TAG);
-    side(w, tag, i + LEFT, y, z, x)
+    side(w, a, AtomAt::LEFT_TAG, AtomAt::LEFT, y, z, x)
 }
 
 // The right side of the atom a.
+#[tactic(auto, unfolding(tables::specs::Decode::right_at))]
 pub fn right(w: &[u8], a: usize, y: u8, z: u8, x: u8) -> Term
     requires { (length w.now ≡ work_bytes) × (a < most_atom_rows) }
     ensures { meaning result ≡ subst_term (Rule.actual y z x) (right_at w.now a) }
 {
-    let i = Layout::ATOMS + a * Layout::ATOM_BYTES;
-    let tag = tables::byte_at(w, i + RIGHT_TAG);
-    side(w, tag, i + RIGHT, y, z, x)
+    side(w, a, AtomAt::RIGHT_TAG, AtomAt::RIGHT, y, z, x)
 }
 
-// The variable of the permission at the atom a.
-fn variable(w: &[u8], a: usize, y: u8, z: u8, x: u8) -> u8
-    requires { (length w.now ≡ work_bytes) × (a < most_atom_rows) }
-    ensures { result ≡ Rule.actual y z x (acc_variable_at w.now a) }
-{
-    let i = Layout::ATOMS + a * Layout::ATOM_BYTES;
-    actual(y, z, x, w[i + LEFT])
-}
-
-// Its field.
-fn field(w: &[u8], a: usize) -> u8
-    requires { (length w.now ≡ work_bytes) × (a < most_atom_rows) }
-    ensures { result ≡ acc_field_at w.now a }
-{
-    let i = Layout::ATOMS + a * Layout::ATOM_BYTES;
-    w[i + LEFT_FIELD]
-}
-
-// The kind of an entry for the permission of the kind k of atoms.
+// The kind of an entry for the permission of the kind k of atoms: numbers, since both are bytes, of the state and of the tables.
+#[tactic(auto, unfolding(check_state::specs::States::permit_of, tables::specs::Decode::permit_of))]
 fn kind_of(k: usize) -> u8
     ensures { IsKind result × (States.permit_of result ≡ permit_of k) }
 {
@@ -112,6 +78,30 @@ fn kind_of(k: usize) -> u8
         AtomKind::CHAIN => State::CHAIN,
         _ => State::READ,
     }
+}
+
+// An atom: a permission's kind of entries, its variable and its field; or a relation's sides, and whether it is `ne`.
+enum Atom {
+    Own(u8, u8, u8),
+    Cmp(bool, Term, Term),
+}
+
+// The atom a, with y, z and x for `this`, w and `result`.
+fn atom_at(w: &[u8], a: usize, y: u8, z: u8, x: u8) -> Atom
+    requires { (length w.now ≡ work_bytes) × (a < most_atom_rows) }
+    ensures { KindFits result × (atom_of result ≡ actual_atom w.now y z x a) }
+{
+    let k = tables::atom_kind(w, a);
+    if k < AtomKind::EQ {
+        let v = tables::atom_variable(w, a) as u8;
+        return Atom::Own(
+            kind_of(k),
+            actual(y, z, x, v),
+            tables::atom_field(w, a) as u8,
+        );
+    }
+    let l = left(w, a, y, z, x);
+    Atom::Cmp(k != AtomKind::EQ, l, right(w, a, y, z, x))
 }
 
 // Shows the atom a, by what is left of the entries.
@@ -124,18 +114,14 @@ fn show_at<'a>(
     key: &'a [u64; State::SLOTS],
     b: &'a [u8; State::BYTES],
     left: &mut [u8; Machine::PERMISSIONS],
-) -> Answer
+) -> Result<(), Refusal>
     requires { (length w.now ≡ work_bytes) × (a < most_atom_rows) × Wf key.now b.now × LeftFits b.now left.old }
     ensures { LeftFits b.now left.new × ShowsAtom key.now b.now left.old (actual_atom w.now y z x a) result left.new }
 {
-    let k = tables::atom_kind(w, a);
-    if k < AtomKind::EQ {
-        let v = variable(w, a, y, z, x);
-        return check_entailment::show_access(key, b, left, kind_of(k), v, field(w, a));
+    match atom_at(w, a, y, z, x) {
+        Atom::Own(k, v, f) => check_entailment::show_access(key, b, left, k, v, f),
+        Atom::Cmp(apart, l, r) => check_entailment::show_relation(key, b, apart, l, r),
     }
-    let apart = k != AtomKind::EQ;
-    let l = crate::left(w, a, y, z, x);
-    check_entailment::show_relation(key, b, apart, l, right(w, a, y, z, x))
 }
 
 // Shows n atoms from the atom a on. `left` has the kinds of the entries, and what is left of each then.
@@ -149,19 +135,14 @@ pub fn show<'a>(
     key: &'a [u64; State::SLOTS],
     b: &'a [u8; State::BYTES],
     left: &mut [u8; Machine::PERMISSIONS],
-) -> Answer
+) -> Result<(), Refusal>
     requires { (length w.now ≡ work_bytes) × (a + n ≤ most_atom_rows) × Wf key.now b.now × Bytes (kind_at b.now) most_permissions left.old }
     ensures { LeftFits b.now left.new × Shows key.now b.now (formula w.now y z x a n) result left.new }
 {
-    let mut i = 0;
-    while i < n {
-        let k = show_at(w, a + i, y, z, x, key, b, left);
-        let Answer::Done = k else {
-            return k;
-        };
-        i += 1;
+    for i in 0..n {
+        show_at(w, a + i, y, z, x, key, b, left)?;
     }
-    Answer::Done
+    Ok(())
 }
 
 // Adds the atom a.
@@ -173,18 +154,14 @@ fn add_at(
     x: u8,
     key: &mut [u64; State::SLOTS],
     b: &mut [u8; State::BYTES],
-) -> Answer
+) -> Result<(), Refusal>
     requires { (length w.now ≡ work_bytes) × (a < most_atom_rows) × Wf key.old b.old }
     ensures { AddsAtom key.old b.old (actual_atom w.now y z x a) result key.new b.new }
 {
-    let k = tables::atom_kind(w, a);
-    if k < AtomKind::EQ {
-        let v = variable(w, a, y, z, x);
-        return check_entailment::add_own(key, b, kind_of(k), v, field(w, a));
+    match atom_at(w, a, y, z, x) {
+        Atom::Own(k, v, f) => check_entailment::add_own(key, b, k, v, f),
+        Atom::Cmp(apart, l, r) => check_entailment::add_relation(key, b, apart, l, r),
     }
-    let apart = k != AtomKind::EQ;
-    let l = left(w, a, y, z, x);
-    check_entailment::add_relation(key, b, apart, l, right(w, a, y, z, x))
 }
 
 // Adds n atoms from the atom a on.
@@ -197,17 +174,12 @@ pub fn add(
     x: u8,
     key: &mut [u64; State::SLOTS],
     b: &mut [u8; State::BYTES],
-) -> Answer
+) -> Result<(), Refusal>
     requires { (length w.now ≡ work_bytes) × (a + n ≤ most_atom_rows) × Wf key.old b.old }
     ensures { Adds (Rules.add (formula w.now y z x a n) (state_of key.old b.old)) result key.new b.new }
 {
-    let mut i = 0;
-    while i < n {
-        let k = add_at(w, a + i, y, z, x, key, b);
-        let Answer::Done = k else {
-            return k;
-        };
-        i += 1;
+    for i in 0..n {
+        add_at(w, a + i, y, z, x, key, b)?;
     }
-    Answer::Done
+    Ok(())
 }

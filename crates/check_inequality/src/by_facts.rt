@@ -45,8 +45,7 @@ fn unequal_from(b: &[u8; State::BYTES], from: usize, n: usize, x: u8, y: u8) -> 
     requires { (from ≤ n) × (n ≤ most_facts) × (any (unequal_in b.now x y) (places from) ≡ false) }
     ensures { result ≡ any (unequal_in b.now x y) (places n) }
 {
-    let mut i = from;
-    while i < n {
+    for i in from..n {
         if unequal_at(
             b[State::RELATIONS + i],
             b[State::LEFT + 2 * i],
@@ -56,7 +55,6 @@ fn unequal_from(b: &[u8; State::BYTES], from: usize, n: usize, x: u8, y: u8) -> 
         ) {
             return true;
         }
-        i += 1;
     }
     false
 }
@@ -66,8 +64,9 @@ pub fn listed_unequal(b: &[u8; State::BYTES], n: usize, x: u8, y: u8) -> bool
     requires { n ≤ most_facts }
     ensures { result ≡ any (unequal_in b.now x y) (places n) }
 {
-    let mut i = 0;
-    while i + BLOCK <= n {
+    let blocks = n / BLOCK;
+    for g in 0..blocks {
+        let i = g * BLOCK;
         if some_unequal(
             b[State::RELATIONS + i],
             b[State::RELATIONS + (i + 1)],
@@ -82,7 +81,6 @@ pub fn listed_unequal(b: &[u8; State::BYTES], n: usize, x: u8, y: u8) -> bool
                 return true;
             }
         }
-        i += BLOCK;
     }
-    unequal_from(b, i, n, x, y)
+    unequal_from(b, blocks * BLOCK, n, x, y)
 }

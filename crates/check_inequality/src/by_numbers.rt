@@ -39,12 +39,10 @@ fn other_number<'a>(
     requires { n ≤ most_terms }
     ensures { result ≡ other_number key.now label.now n l b j }
 {
-    let mut i = 0;
-    while i < n {
+    for i in 0..n {
         if other_like(j, l, b, key[State::TERMS + i], label[State::TERMS + i]) {
             return true;
         }
-        i += 1;
     }
     false
 }
@@ -83,12 +81,10 @@ fn different_numbers<'a>(
     requires { n ≤ most_terms }
     ensures { result ≡ any (two_numbers key.now label.now n t a u b) (places n) }
 {
-    let mut i = 0;
-    while i < n {
+    for i in 0..n {
         if two_numbers(key, label, n, t, a, u, b, i) {
             return true;
         }
-        i += 1;
     }
     false
 }

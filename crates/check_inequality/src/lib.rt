@@ -4,7 +4,7 @@
 mod by_facts;
 mod by_numbers;
 
-ghost use Rattle.std.specs.Prelude.{◌≡◌, true, ◌&&◌, ◌⊎◌, ◌≤◌, ◌<◌};
+ghost use Rattle.std.specs.Prelude.{◌≡◌, true, ◌&&◌, ◌≤◌, ◌<◌};
 ghost use Rattle.rules.specs.Base.{any};
 ghost use Rattle.rules.specs.Limits.{most_permissions};
 ghost use Rattle.rules.specs.Syntax as Syntax;
@@ -51,8 +51,7 @@ fn some_object<'a>(
     requires { Slots key.now b.now m × Labelled key.now b.now m k a × (n ≤ most_permissions) }
     ensures { Told key.now b.now m (λ same. result ≡ any (λ p. is_path p.permit && same (var p.variable) (term_of k)) (permissions_in b.now n)) }
 {
-    let mut i = 0;
-    while i < n {
+    for i in 0..n {
         if is_object(
             key,
             b,
@@ -64,7 +63,6 @@ fn some_object<'a>(
         ) {
             return true;
         }
-        i += 1;
     }
     false
 }
@@ -136,26 +134,12 @@ fn first_named<'a>(
     requires { Slots key.now b.now m × Labelled key.now b.now m k a × (n ≤ most_permissions) }
     ensures { (result ≤ n) × Told key.now b.now m (λ same. FirstPlace (named_at b.now k same) n result) }
 {
-    let mut i = 0;
-    while i < n {
+    for i in 0..n {
         if check_state::variable_is(key, b, m, b[State::VARIABLES + i], k, a) {
             return i;
         }
-        i += 1;
     }
     n
-}
-
-fn earlier(i: usize, j: usize) -> usize
-    ensures { (result ≤ i) × (result ≤ j) }
-{
-    if i < j { i } else { j }
-}
-
-fn later(i: usize, j: usize) -> usize
-    ensures { (i ≤ result) × ((result ≡ i) ⊎ (result ≡ j)) }
-{
-    if i < j { j } else { i }
 }
 
 // (d) Are the terms of t and u ~ the variables of two entries for one field, one of them an `acc`? Only an entry whose variable is ~ to one of them is
@@ -175,25 +159,19 @@ fn two_entries<'a>(
 {
     let s = first_named(key, b, m, n, t, x);
     let v = first_named(key, b, m, n, u, y);
-    let first = earlier(s, v);
-    let mut found = false;
-    let mut i = later(s, v);
-    'entries: while i < n {
+    let first = s.min(v);
+    for i in s.max(v)..n {
         let p = check_state::variable_is(key, b, m, b[State::VARIABLES + i], t, x);
         let q = check_state::variable_is(key, b, m, b[State::VARIABLES + i], u, y);
         if p | q {
-            let mut j = first;
-            while j < i {
+            for j in first..i {
                 if pair(key, b, m, j, i, t, x, u, y, p, q) {
-                    found = true;
-                    break 'entries;
+                    return true;
                 }
-                j += 1;
             }
         }
-        i += 1;
     }
-    found
+    false
 }
 
 // Is the inequality of two terms shown? The ways (a), (c), (d) and then (b).

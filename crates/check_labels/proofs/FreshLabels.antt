@@ -1,11 +1,10 @@
 -- Labels made anew: each slot before the facts' has its own number.
 use mathlib.Core.Path.{◌≡◌, sym, ap, ◌∙◌}
 use mathlib.Core.List.{List, []}
-use mathlib.Core.Logic.{◌⊎◌, inl, inr, ⊎_elim}
-use Prim.Native.Nat.{ℕ, ◌+◌, ◌<◌}
+use mathlib.Core.Logic.{◌⊎◌, inl, inr}
+use Prim.Native.Nat.{ℕ, ◌<◌}
 use native.Mathlib.Omega.{arith}
-use lib.ListN.{length, get_or, set}
-use lib.Seq.{get_or-set_same, get_or-set_other}
+use lib.ListN.{length, get_or}
 use Rattle.rules.specs.State.{representative}
 use Rattle.rules.proofs.Lists.{decide_eq}
 use Rattle.check_equality.specs.Listing.{listed}
@@ -36,13 +35,3 @@ fresh-decides key label H own =
 pub fresh-linked : (key b : List ℕ) → Header key → length b ≡ bytes → ((i : ℕ) → i < left_sides → get_or b i 0 ≡ i) → Linked key b 0
 unfolding listed
 fresh-linked key b H l own = record { header = H; size = l; fit = omega arith; decides = fresh-decides key b H own }
-
--- one more place that holds its own number
-pub own-more : (l : List ℕ) (i : ℕ) → i < length l → ((j : ℕ) → j < i → get_or l j 0 ≡ j) → (j : ℕ) → j < i + 1 → get_or (set l i i) j 0 ≡ j
-own-more l i h before j g = ⊎_elim here there (decide_eq j i)
-  where
-    here : j ≡ i → get_or (set l i i) j 0 ≡ j
-    here d = rw d (get_or-set_same l i i 0 h)
-
-    there : (j ≡ i → ⊥) → get_or (set l i i) j 0 ≡ j
-    there d = get_or-set_other l i j i 0 d ∙ before j (omega arith)

@@ -1,7 +1,7 @@
 -- The facts that are left, with labels made anew.
 use mathlib.Core.Path.{◌≡◌, refl, sym, ap, ap₂, ◌∙◌}
 use mathlib.Core.Bool.{Bool, true, false, cond, not, ◌&&◌, ◌||◌}
-use mathlib.Core.List.{List, [], ◌∷◌, ◌++◌, append-nil}
+use mathlib.Core.List.{List, [], ◌∷◌, ◌++◌}
 use mathlib.Core.Option.{Option, none, some}
 use Prim.Native.Nat.{ℕ, zero, suc, ◌+◌, ◌*◌, ◌≤◌, ◌<◌}
 use native.Mathlib.Omega.{arith}
@@ -13,11 +13,11 @@ use Rattle.rules.specs.State.{Term, Fact, Renaming, trivial, rename_fact, rename
 use Rattle.rules.specs.Limits.{most_facts}
 use Rattle.check_equality.specs.Keys.{term_of}
 use Rattle.check_equality.specs.Listing.{listed}
-use Rattle.check_equality.specs.Links.{Header, term_at, fact_of, Pushed}
+use Rattle.check_equality.specs.Links.{term_at, fact_of, Pushed}
 use Rattle.check_equality.specs.Layout.{left_sides, right_sides, relations_at, variables_at, fact_count, entry_count}
 use Rattle.check_equality.proofs.Keys.{same_key}
 use Rattle.check_equality.proofs.Listing.{listed_more, listed_same, map-append}
-use Rattle.check_state.specs.States.{Wf, Linked, facts, entries, apart_at, fact_at, facts_in}
+use Rattle.check_state.specs.States.{Linked, facts, entries, apart_at, fact_at, facts_in}
 use Rattle.check_state.proofs.Writing.{kinds-same, counted-linked, counted-facts, counted-other, pushed-facts, pushed-linked, pushed-rest, pushed-keys}
 use Rattle.check_inequality.proofs.Searches.{ne-is}
 use Rattle.check_scans.specs.Scans.{same_sides, trivial_at}
@@ -35,13 +35,6 @@ keeps-fact key b n c l r L h key' b₁ d e P =
       keys = λ j g. pushed-keys key b n c l r L h key' b₁ d e P j (omega arith) (omega arith);
       rest = pushed-rest key b n c l r L h key' b₁ d e P;
     }
-
-pub drops-fact : (key b : List ℕ) (n c l r : ℕ) → Linked key b n → KeepsFact key b n true c l r key b n
-drops-fact key b n c l r L =
-    record { few = omega arith; linked = L; facts = sym (append-nil (facts_in key b n)); keys = λ j g. refl; rest = λ j g. refl }
-
-pub wf-sized : (key key' b : List ℕ) → Header key' → Wf key b → Sized key' b
-wf-sized key key' b H w = record { header = H; size = w.linked.size; fit = w.linked.fit; entries_fit = w.fit; kinds = w.kinds }
 
 -- ONE MORE FACT RENAMED
 pub keep_append : {A : Type 0} (p : A → Bool) (l m : List A) → keep p (l ++ m) ≡ keep p l ++ keep p m

@@ -3,16 +3,16 @@ use mathlib.Core.Path.{◌≡◌, refl, sym, ap, ◌∙◌}
 use mathlib.Core.Bool.{Bool, true, false, cond, not, ◌&&◌}
 use mathlib.Core.List.{List}
 use mathlib.Core.Logic.{◌⊎◌, inl, inr, ⊎_elim}
-use Prim.Native.Nat.{ℕ, ◌+◌, ◌*◌, ◌≤◌, ◌<◌}
+use Prim.Native.Nat.{ℕ, ◌+◌, ◌≤◌, ◌<◌}
 use native.Mathlib.Omega.{arith}
 use lib.Dec.{eqb, ltb}
 use lib.ListN.{length, get_or, set, replicate, length-set, length-replicate, get_or-replicate}
 use lib.Seq.{get_or-set_same, get_or-set_other}
 use borrow.Author.Tests.{eqb-false, ltb-true, lt-ltb}
 use Rattle.rules.proofs.Lists.{decide_eq}
-use Rattle.check_equality.specs.Layout.{slots, null_slot, left_sides, right_sides, relations_at, bytes}
+use Rattle.check_equality.specs.Layout.{slots, null_slot, left_sides, bytes}
 use Rattle.check_equality.specs.Links.{no_label}
-use Rattle.check_labels.specs.Labels.{Lone, lone_of, LabelsBelow, Named, own, known, new, Relabelled, LabelsFit, fitting, with_label, even, Whole}
+use Rattle.check_labels.specs.Labels.{Lone, lone_of, LabelsBelow, Named, own, known, new, Relabelled, LabelsFit, fitting, with_label}
 
 -- the first i slots have new labels: `name` has them by the old ones, and each is a slot's
 pub record Naming (b : List ℕ) (x i : ℕ) (name b' : List ℕ) : Type 0 where
@@ -134,50 +134,6 @@ module _ (b : List ℕ) (x i : ℕ) (name b' : List ℕ) (N : Naming b x i name 
   naming-more name₁ r (own e p q) = rw (p, q) (named-own e)
   naming-more name₁ r (known n k p q) = rw (p, q) (named-known n k)
   naming-more name₁ r (new n k p q) = rw (p, q) (named_new n k)
-
--- ALL OF THEM
-pub relabelled : (b : List ℕ) (m x i : ℕ) (name b' : List ℕ) → m ≡ i → m ≤ slots → LabelsBelow b m → Naming b x i name b' → Relabelled b m x b'
-relabelled b m x i name b' e s L N =
-    record {
-      size = N.size;
-      low = λ j h. ⊎_elim (λ d. low-own j h d) (λ d. rw (N.at j (omega arith) d) (omega (arith, N.found j (omega arith) d))) (decide_eq j x);
-      same = λ j k h g p q d. N.at j (omega arith) p ∙ ap (λ (a : ℕ). get_or name a 0) d ∙ sym (N.at k (omega arith) q);
-      apart =
-          λ j k h g p q d.
-          N.apart (get_or b j 0) (get_or b k 0) (L.low j h) (L.low k g) (λ z. omega (arith, z, N.found j (omega arith) p)) (sym (N.at j (omega arith) p) ∙ d ∙ N.at k (omega arith) q);
-      alone =
-          λ j h g p d.
-          ⊎_elim (λ z. omega (arith, z, N.found j (omega arith) p)) (λ (z, y). y (sym (N.at j (omega arith) p) ∙ d ∙ N.alone (omega arith))) (N.low (get_or b j 0) (L.low j h));
-      rest = λ j h. N.rest j (omega arith);
-    }
-  where
-    low-own : (j : ℕ) → j < m → j ≡ x → get_or b' j 0 < m
-    low-own j h d = rw d (let z : get_or b' x 0 ≡ x = N.alone (omega arith) in omega arith)
-
--- LABELS THAT FIT
-pub and_left : (a c : Bool) → (a && c) ≡ true → a ≡ true
-and_left true c z = refl
-and_left false c z = z
-
-pub and_right : (a c : Bool) → (a && c) ≡ true → c ≡ true
-and_right true c z = z
-and_right false c z = absurd (let y : ◌≡◌ {A = ℕ} 0 1 = cc in omega arith)
-
-pub not-true : (c : Bool) → not c ≡ true → c ≡ false
-not-true true z = sym z
-not-true false z = refl
-
-pub fits_more : (b : List ℕ) (m i x : ℕ) (good r : Bool) → r ≡ fitting m x (get_or b i 0) → (good ≡ true → LabelsFit b m i x) → (good && r) ≡ true → LabelsFit b m (i + 1) x
-fits_more b m i x good r e F d j h =
-    ⊎_elim (λ z. rw z (sym e ∙ and_right good r d)) (λ z. F (and_left good r d) j (omega arith)) (decide_eq j i)
-
--- one fact more that is whole
-pub whole-more :
-    (b : List ℕ) (gone : List Bool) (from i : ℕ) (good r : Bool) →
-    r ≡ even (get_or b (relations_at + i) 0) (get_or gone (left_sides + 2 * i) false) (get_or gone (right_sides + 2 * i) false) → (good ≡ true → Whole b gone from i) →
-    (good && r) ≡ true → Whole b gone from (i + 1)
-whole-more b gone from i good r e F d j g h =
-    ⊎_elim (λ z. rw z (sym e ∙ and_right good r d)) (λ z. F (and_left good r d) j g (omega arith)) (decide_eq j i)
 
 fit_is : (m x l : ℕ) → fitting m x l ≡ true → (l < m) × (l ≡ x → ⊥)
 unfolding fitting

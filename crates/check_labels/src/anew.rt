@@ -13,10 +13,8 @@ pub fn fresh(b: &mut [u8; State::BYTES])
     requires { length b.old ≡ bytes }
     ensures { Fresh b.old b.new }
 {
-    let mut i = 0;
-    while i < State::LEFT {
+    for i in 0..State::LEFT {
         b[i] = i as u8;
-        i += 1;
     }
 }
 
@@ -63,16 +61,12 @@ pub fn rebuild(
     let mut marks = [false; State::MARKS];
     fresh(b);
     let mut n = 0;
-    let mut i = 0;
-    while i < all {
-        let l = State::LEFT + 2 * i;
-        let r = State::RIGHT + 2 * i;
+    for i in 0..all {
+        let out = crate::is_out(key, b, gone, i);
         let c = b[State::RELATIONS + i];
-        let left = key[l];
-        let right = key[r];
-        let out = gone[l] | gone[r] | check_scans::trivial(c, left, right);
+        let left = key[State::LEFT + 2 * i];
+        let right = key[State::RIGHT + 2 * i];
         n = keep_fact(key, b, &mut marks, n, out, c, left, right);
-        i += 1;
     }
     b[State::FACTS] = n as u8;
 }

@@ -4,16 +4,31 @@
 
 mod anew;
 
-ghost use Rattle.std.specs.Prelude.{◌≡◌, true, ◌≤◌, ◌<◌, length};
+ghost use Rattle.std.specs.Prelude.{◌≡◌, ℕ, ◌+◌, ◌*◌, Bool, true, false, ◌||◌, ◌≤◌, ◌<◌, length, slice_index_or};
 ghost use Rattle.rules.specs.Limits.{most_facts};
-ghost use Rattle.check_equality.specs.Layout.{bytes, slots, left_sides};
+ghost use Rattle.check_equality.specs.Layout.{bytes, slots, left_sides, right_sides};
 ghost use Rattle.check_state.specs.States.{facts};
-ghost use Rattle.check_scans.specs.Scans.{Untouched};
+ghost use Rattle.check_scans.specs.Scans.{Untouched, trivial_at};
 ghost use Rattle.check_labels.specs.Facts.{Rebuilt};
 ghost use Rattle.check_labels.specs.Labels.{Lone, lone_of, LabelsBelow, Named, Relabelled, LabelsFit, with_label, fitting, MovesFact, even, Whole, Keeps};
 
 pub use anew::{fresh, rebuild};
 use check_equality::State;
+
+// Is a side of the fact i gone, or is it an equality with one term on both sides?
+fn is_out<'a>(
+    key: &'a [u64; State::SLOTS],
+    b: &'a [u8; State::BYTES],
+    gone: &'a [bool; State::SLOTS],
+    i: usize,
+) -> bool
+    requires { i < most_facts }
+    ensures { result ≡ ((slice_index_or gone.now (left_sides + 2 * i) false || slice_index_or gone.now (right_sides + 2 * i) false) || trivial_at key.now b.now i) }
+{
+    let l = State::LEFT + 2 * i;
+    let r = State::RIGHT + 2 * i;
+    gone[l] | gone[r] | check_scans::trivial(b[State::RELATIONS + i], key[l], key[r])
+}
 
 // x, or NO_VARIABLE where it is no variable.
 fn lone(x: u8) -> u8
@@ -26,7 +41,8 @@ fn lone(x: u8) -> u8
     }
 }
 
-// The new label of slot j, which had the label a: `name` has the new labels by the old ones, NO_LABEL for none yet. That of x is its own.
+// The new label of slot j, which had the label a: `name` has the new labels by the old ones, NO_LABEL for none yet (bytes, since Options
+// would take twice the room). That of x is its own.
 fn new_label(name: &mut [u8; State::SLOTS], j: usize, a: u8, x: u8) -> u8
     requires { (j < slots) × (a < slots) × (length name.old ≡ slots) }
     ensures { Named j a x name.old name.new result }
@@ -50,12 +66,22 @@ fn relabel(b: &mut [u8; State::BYTES], m: usize, x: u8)
     ensures { Relabelled b.old m x b.new }
 {
     let mut name = [State::NO_LABEL; State::SLOTS];
-    let mut i = 0;
-    while i < m {
+    for i in 0..m {
         let a = b[i];
         b[i] = new_label(&mut name, i, a, x);
-        i += 1;
     }
+}
+
+// Does each place from `from` to n pass? All are tried: with no early end the loop runs on several at a time.
+fn every<F: Fn(usize) -> bool>(from: usize, n: usize, passes: F) -> bool
+    requires { (i : ℕ) → from ≤ i → i < n → F.pre passes i }
+    ensures { (test : ℕ → Bool) → ((i : ℕ) (r : Bool) → from ≤ i → i < n → F.post passes i r → r ≡ test i) → result ≡ true → (i : ℕ) → from ≤ i → i < n → test i ≡ true }
+{
+    let mut good = true;
+    for i in from..n {
+        good = good & passes(i);
+    }
+    good
 }
 
 // Is a label below m, and not x's?
@@ -71,13 +97,7 @@ fn fits(b: &[u8; State::BYTES], m: usize, x: u8) -> bool
     ensures { result ≡ true → LabelsFit b.now m m x }
 {
     let top = m as u8;
-    let mut good = true;
-    let mut i = 0;
-    while i < m {
-        good = good & fit(b[i], top, x);
-        i += 1;
-    }
-    good
+    every(0, m, |i| fit(b[i], top, x))
 }
 
 // The label of the variable x, if it is one.
@@ -150,18 +170,13 @@ pub fn whole<'a>(b: &'a [u8; State::BYTES], gone: &'a [bool; State::SLOTS], from
     ensures { result ≡ true → Whole b.now gone.now from (facts b.now) }
 {
     let n = b[State::FACTS] as usize;
-    let mut good = true;
-    let mut i = from;
-    while i < n {
-        good = good
-            & both(
-                b[State::RELATIONS + i],
-                gone[State::LEFT + 2 * i],
-                gone[State::RIGHT + 2 * i],
-            );
-        i += 1;
-    }
-    good
+    every(from, n, |i| {
+        both(
+            b[State::RELATIONS + i],
+            gone[State::LEFT + 2 * i],
+            gone[State::RIGHT + 2 * i],
+        )
+    })
 }
 
 // The facts of which no side is gone, but for equalities with one term on both sides, with their labels; x is alone. Those before
@@ -178,13 +193,9 @@ pub fn repack(
 {
     let all = b[State::FACTS] as usize;
     let mut n = from;
-    let mut i = from;
-    while i < all {
-        let l = State::LEFT + 2 * i;
-        let r = State::RIGHT + 2 * i;
-        let out = gone[l] | gone[r] | check_scans::trivial(b[State::RELATIONS + i], key[l], key[r]);
+    for i in from..all {
+        let out = is_out(key, b, gone, i);
         n = move_fact(key, b, n, out, i);
-        i += 1;
     }
     b[State::FACTS] = n as u8;
     keep_labels(b, State::LEFT + 2 * n, lone(x));

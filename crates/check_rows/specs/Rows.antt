@@ -8,9 +8,8 @@ use Rattle.rules.specs.Syntax.{Rel, Simple, simple, set, assign, compute, new, c
 use Rattle.rules.specs.State as Rules
 use Rattle.rules.specs.Rules.{End, opposite, rule, if_rule}
 use Rattle.tables.specs.Decode.{kind_at, x_at, y_at, z_at, member_at, first_atom_at, atom_count_at, stmt_at, program_in, atom_place, byte_at, rel_of, operation_of, left_at, right_at}
-use Rattle.check_entailment.specs.declared.Answer.{Answer}
 use Rattle.check_state.specs.States.{state_of}
-use Rattle.check_entailment.specs.Answers.{Adds}
+use Rattle.check_entailment.specs.Answers.{Answer, Adds}
 use Rattle.check_statements.specs.Statements.{loop_known}
 
 -- the row is of this kind

@@ -11,7 +11,7 @@ ghost use Rattle.check_entailment.specs.Answers.{Adds};
 ghost use Rattle.check_statements.specs.Statements.{Parts, end_of, JoinGives};
 ghost use Rattle.check_rows.specs.Rows.{RowIs, set_at, let_at, new_at, call_at, compute_at, open_at, shut_at, RuleGives, branches, body_starts, loop_leaves, Stepped};
 
-use check_entailment::Answer;
+use check_entailment::Refusal;
 use check_equality::State;
 use rules::Kind;
 use tables::AtomKind;
@@ -20,7 +20,12 @@ use tables::AtomKind;
 const UNKNOWN: u8 = Kind::LAST + 1;
 
 // `set x f y`
-fn set_at(w: &[u8], i: usize, key: &mut [u64; State::SLOTS], b: &mut [u8; State::BYTES]) -> Answer
+fn set_at(
+    w: &[u8],
+    i: usize,
+    key: &mut [u64; State::SLOTS],
+    b: &mut [u8; State::BYTES],
+) -> Result<(), Refusal>
     requires { Tables w.now × (i < row_count w.now) × Wf key.old b.old }
     ensures { RuleGives w.now (set_at w.now i) key.old b.old result key.new b.new }
 {
@@ -31,7 +36,12 @@ fn set_at(w: &[u8], i: usize, key: &mut [u64; State::SLOTS], b: &mut [u8; State:
 }
 
 // `let x e`
-fn let_at(w: &[u8], i: usize, key: &mut [u64; State::SLOTS], b: &mut [u8; State::BYTES]) -> Answer
+fn let_at(
+    w: &[u8],
+    i: usize,
+    key: &mut [u64; State::SLOTS],
+    b: &mut [u8; State::BYTES],
+) -> Result<(), Refusal>
     requires { Tables w.now × (i < row_count w.now) × RowIs w.now i Let × Wf key.old b.old }
     ensures { RuleGives w.now (let_at w.now i) key.old b.old result key.new b.new }
 {
@@ -46,7 +56,12 @@ fn let_at(w: &[u8], i: usize, key: &mut [u64; State::SLOTS], b: &mut [u8; State:
 }
 
 // `new x C`
-fn new_at(w: &[u8], i: usize, key: &mut [u64; State::SLOTS], b: &mut [u8; State::BYTES]) -> Answer
+fn new_at(
+    w: &[u8],
+    i: usize,
+    key: &mut [u64; State::SLOTS],
+    b: &mut [u8; State::BYTES],
+) -> Result<(), Refusal>
     requires { Tables w.now × (i < row_count w.now) × RowIs w.now i New × Wf key.old b.old }
     ensures { RuleGives w.now (new_at w.now i) key.old b.old result key.new b.new }
 {
@@ -55,7 +70,12 @@ fn new_at(w: &[u8], i: usize, key: &mut [u64; State::SLOTS], b: &mut [u8; State:
 }
 
 // `call x y m z`
-fn call_at(w: &[u8], i: usize, key: &mut [u64; State::SLOTS], b: &mut [u8; State::BYTES]) -> Answer
+fn call_at(
+    w: &[u8],
+    i: usize,
+    key: &mut [u64; State::SLOTS],
+    b: &mut [u8; State::BYTES],
+) -> Result<(), Refusal>
     requires { Tables w.now × (i < row_count w.now) × RowIs w.now i Call × Wf key.old b.old }
     ensures { RuleGives w.now (call_at w.now i) key.old b.old result key.new b.new }
 {
@@ -71,17 +91,22 @@ fn compute_at(
     i: usize,
     key: &mut [u64; State::SLOTS],
     b: &mut [u8; State::BYTES],
-) -> Answer
+) -> Result<(), Refusal>
     requires { Tables w.now × (i < row_count w.now) × Wf key.old b.old }
     ensures { RuleGives w.now (compute_at w.now i) key.old b.old result key.new b.new }
 {
     let x = tables::x_at(w, i) as u8;
     check_forgetting::remove(key, b, x);
-    Answer::Done
+    Ok(())
 }
 
 // `open y x f`
-fn open_at(w: &[u8], i: usize, key: &mut [u64; State::SLOTS], b: &mut [u8; State::BYTES]) -> Answer
+fn open_at(
+    w: &[u8],
+    i: usize,
+    key: &mut [u64; State::SLOTS],
+    b: &mut [u8; State::BYTES],
+) -> Result<(), Refusal>
     requires { Tables w.now × (i < row_count w.now) × Wf key.old b.old }
     ensures { RuleGives w.now (open_at w.now i) key.old b.old result key.new b.new }
 {
@@ -92,7 +117,12 @@ fn open_at(w: &[u8], i: usize, key: &mut [u64; State::SLOTS], b: &mut [u8; State
 }
 
 // `shut x f`
-fn shut_at(w: &[u8], i: usize, key: &mut [u64; State::SLOTS], b: &mut [u8; State::BYTES]) -> Answer
+fn shut_at(
+    w: &[u8],
+    i: usize,
+    key: &mut [u64; State::SLOTS],
+    b: &mut [u8; State::BYTES],
+) -> Result<(), Refusal>
     requires { Tables w.now × (i < row_count w.now) × Wf key.old b.old }
     ensures { RuleGives w.now (shut_at w.now i) key.old b.old result key.new b.new }
 {
@@ -107,7 +137,7 @@ fn assert_at(
     i: usize,
     key: &mut [u64; State::SLOTS],
     b: &mut [u8; State::BYTES],
-) -> Answer
+) -> Result<(), Refusal>
     requires { Tables w.now × (i < row_count w.now) × Wf key.old b.old }
     ensures { RuleGives w.now (Syntax.assert (formula_at w.now i)) key.old b.old result key.new b.new }
 {
@@ -121,7 +151,7 @@ fn release_at(
     i: usize,
     key: &mut [u64; State::SLOTS],
     b: &mut [u8; State::BYTES],
-) -> Answer
+) -> Result<(), Refusal>
     requires { Tables w.now × (i < row_count w.now) × Wf key.old b.old }
     ensures { RuleGives w.now (Syntax.release (formula_at w.now i)) key.old b.old result key.new b.new }
 {
@@ -137,7 +167,7 @@ pub fn if_at(
     b: &mut [u8; State::BYTES],
     key2: &mut [u64; State::SLOTS],
     b2: &mut [u8; State::BYTES],
-) -> Answer
+) -> Result<(), Refusal>
     requires { Tables w.now × (i < row_count w.now) × RowIs w.now i If × Wf key.old b.old × (key2.old ≡ key.old) × (b2.old ≡ b.old) }
     ensures { Parts (branches w.now i (state_of key.old b.old)) result key.new b.new key2.new b2.new }
 {
@@ -158,7 +188,7 @@ pub fn join_at<'a>(
     returned2: bool,
     key2: &'a [u64; State::SLOTS],
     b2: &'a [u8; State::BYTES],
-) -> Answer
+) -> Result<(), Refusal>
     requires { Tables w.now × (i < row_count w.now) × Wf key.old b.old × Wf key2.now b2.now }
     ensures { JoinGives (formula_at w.now i) returned key.old b.old returned2 key2.now b2.now result key.new b.new }
 {
@@ -182,7 +212,7 @@ pub fn loop_at(
     i: usize,
     key: &mut [u64; State::SLOTS],
     b: &mut [u8; State::BYTES],
-) -> Answer
+) -> Result<(), Refusal>
     requires { Tables w.now × (i < row_count w.now) × RowIs w.now i Loop × Wf key.old b.old }
     ensures { Adds (body_starts w.now i (state_of key.old b.old)) result key.new b.new }
 {
@@ -193,13 +223,14 @@ pub fn loop_at(
 }
 
 // `again` of the `loop` at row i: the end of its body shows the invariant, and that and the opposite is left.
+// Not one with loop_at: the end that shows the invariant and the relation both differ, and the two calls are all there is.
 pub fn again_at(
     w: &[u8],
     i: usize,
     returned: bool,
     key: &mut [u64; State::SLOTS],
     b: &mut [u8; State::BYTES],
-) -> Answer
+) -> Result<(), Refusal>
     requires { Tables w.now × (i < row_count w.now) × RowIs w.now i Loop × Wf key.old b.old }
     ensures { Adds (loop_leaves w.now i (end_of returned (state_of key.old b.old))) result key.new b.new }
 {
@@ -215,7 +246,7 @@ pub fn statement(
     i: usize,
     key: &mut [u64; State::SLOTS],
     b: &mut [u8; State::BYTES],
-) -> Answer
+) -> Result<(), Refusal>
     requires { Tables w.now × (i < row_count w.now) × GoesOn (kind_at w.now i) × Wf key.old b.old }
     ensures { Stepped w.now i (state_of key.old b.old) result key.new b.new }
 {
@@ -229,11 +260,11 @@ pub fn statement(
         Kind::ADD | Kind::SUB => compute_at(w, i, key, b),
         Kind::OPEN => open_at(w, i, key, b),
         Kind::SHUT => shut_at(w, i, key, b),
-        // The other statements do not go on, and no row is of an unknown kind: any answer meets the contract.
+        // The other statements do not go on, and no row is of an unknown kind: any result meets the contract.
         0..=Kind::VAR
         | Kind::RETURN
         | Kind::IF..=Kind::END
         | Kind::LOOP..=Kind::AGAIN
-        | UNKNOWN..=u8::MAX => Answer::Malformed,
+        | UNKNOWN..=u8::MAX => Err(Refusal::Malformed),
     }
 }

@@ -1,10 +1,10 @@
 -- Sides dropped or renamed, one after the other.
-use Rattle.std.proofs.Common.{◌≡◌, ℕ, ◌+◌, ◌<◌, ◌≤◌, Bool, false, List, get_or, set, refl, ap, ◌∙◌, ⊎_elim, arith, length-set, get_or-set_other, get_or-set_same}
+use Rattle.std.proofs.Common.{◌≡◌, ℕ, ◌+◌, ◌<◌, ◌≤◌, Bool, false, List, get_or, set, ap, ◌∙◌, ⊎_elim, arith, length-set, get_or-set_other, get_or-set_same}
 use Rattle.rules.proofs.Lists.{decide_eq}
 use Rattle.check_equality.specs.Links.{Header}
 use Rattle.check_equality.specs.Layout.{slots, left_sides}
 use Rattle.check_equality.proofs.Labels.{header-set}
-use Rattle.check_scans.specs.Sides.{Dropped, MappedKeys}
+use Rattle.check_scans.specs.Sides.{Dropped}
 
 -- SIDES DROPPED
 pub dropped-more :
@@ -19,17 +19,11 @@ dropped-more test key i gone g h₀ D e =
           (decide_eq j i);
     }
 
-pub dropped-all : (test : ℕ → Bool) (key : List ℕ) (i m : ℕ) (gone : List Bool) → m ≤ i → Dropped test key i gone → Dropped test key m gone
-dropped-all test key i m gone h D = record { size = D.size; at = λ j a g. D.at j a (omega arith) }
-
 -- SIDES BY A MAP OF KEYS: those before slot i are, the others are as they were
 pub record MappedTo (map : ℕ → ℕ) (old : List ℕ) (i : ℕ) (key : List ℕ) : Type 0 where
   pub header : Header key
   pub done : (j : ℕ) → left_sides ≤ j → j < i → get_or key j 0 ≡ map (get_or old j 0)
   pub rest : (j : ℕ) → i ≤ j → get_or key j 0 ≡ get_or old j 0
-
-pub mapped-first : (map : ℕ → ℕ) (key : List ℕ) (i : ℕ) → MappedKeys map key i key → MappedTo map key i key
-mapped-first map key i M = record { header = M.header; done = M.at; rest = λ j h. refl }
 
 pub mapped-more :
     (map : ℕ → ℕ) (old : List ℕ) (i : ℕ) (key : List ℕ) (l : ℕ) → left_sides ≤ i → i < slots → MappedTo map old i key → l ≡ map (get_or key i 0) →
@@ -43,6 +37,3 @@ mapped-more map old i key l a h R e =
           (λ d. get_or-set_other key i j l 0 d ∙ R.done j b (omega arith)) (decide_eq j i);
       rest = λ j g. get_or-set_other key i j l 0 (omega arith) ∙ R.rest j (omega arith);
     }
-
-pub mapped-all : (map : ℕ → ℕ) (old : List ℕ) (i m : ℕ) (key : List ℕ) → m ≤ i → MappedTo map old i key → MappedKeys map old m key
-mapped-all map old i m key h R = record { header = R.header; at = λ j a g. R.done j a (omega arith) }

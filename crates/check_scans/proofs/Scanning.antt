@@ -3,7 +3,7 @@ use Rattle.std.proofs.Common.{◌≡◌, ℕ, ◌+◌, ◌*◌, ◌<◌, ◌≤�
 use lib.ListN.{length-replicate}
 use Rattle.rules.proofs.Lists.{decide_eq}
 use Rattle.check_equality.specs.Layout.{slots, left_sides, right_sides, relations_at}
-use Rattle.check_equality.specs.Links.{Header, picked, place_of}
+use Rattle.check_equality.specs.Links.{Header, picked}
 use Rattle.check_state.specs.States.{facts}
 use Rattle.check_state.proofs.Entries.{no-flags}
 use Rattle.check_inequality.proofs.Searches.{or-none-left, or-none-right}
@@ -20,26 +20,12 @@ pub and-false : (c : Bool) → (c && false) ≡ false
 and-false true = refl
 and-false false = refl
 
-pub at_place : (marks : List Bool) (k : ℕ) {p : ℕ} {c : Bool} → p ≡ place_of k → get_or marks p false ≡ c → marked_key marks k ≡ c
-at_place marks k e d = rw (← e) d
-
 -- ONE FACT
-pub touches-left : (test : ℕ → Bool) (l r : ℕ) → test l ≡ true → true ≡ touches test l r
-unfolding touches
-touches-left test l r e = rw e
-
-pub touches-right : (test : ℕ → Bool) (l r : ℕ) → test l ≡ false → test r ≡ true → true ≡ touches test l r
-unfolding touches
-touches-right test l r d e = rw (d, e)
-
 pub touches_none : (test : ℕ → Bool) (l r : ℕ) → test l ≡ false → test r ≡ false → eqb l r ≡ touches test l r
 unfolding touches
 touches_none test l r d e = rw (d, e)
 
 -- ONE FACT MORE
-pub scanned-first : (test : ℕ → Bool) (key b : List ℕ) → Scanned test key b 0
-scanned-first test key b = record { most = omega arith; sides = λ j a h. absurd (omega arith); plain = λ i h. absurd (omega arith) }
-
 pub scanned-more :
     (test : ℕ → Bool) (key b : List ℕ) (i : ℕ) → i < facts b → Scanned test key b i →
     touches test (get_or key (left_sides + 2 * i) 0) (get_or key (right_sides + 2 * i) 0) ≡ false → Scanned test key b (i + 1)

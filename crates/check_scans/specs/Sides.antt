@@ -23,3 +23,7 @@ pub record Dropped (test : ℕ → Bool) (key : List ℕ) (m : ℕ) (gone : List
 pub record MappedKeys (map : ℕ → ℕ) (key : List ℕ) (m : ℕ) (key' : List ℕ) : Type 0 where
   pub header : Header key'
   pub at : (j : ℕ) → left_sides ≤ j → j < m → slice_index key' j ≡ map (slice_index key j)
+
+-- what a call says of the key in a slot from the facts' up to m is what f says
+abbrev pub Tells : {R : Type 0} → (ℕ → R → Type 0) → (ℕ → R) → List ℕ → ℕ → Type 0
+Tells {R = R} post f key m = (j : ℕ) (r : R) → left_sides ≤ j → j < m → post (slice_index key j) r → r ≡ f (slice_index key j)

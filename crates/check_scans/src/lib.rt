@@ -5,12 +5,12 @@
 mod keys;
 mod sides;
 
-ghost use Rattle.std.specs.Prelude.{◌≡◌, ◌≤◌, false, nat_eq};
+ghost use Rattle.std.specs.Prelude.{◌≡◌, ℕ, ◌+◌, ◌*◌, ◌≤◌, Bool, false, nat_eq};
 ghost use Rattle.rules.specs.Limits.{most_facts};
-ghost use Rattle.check_equality.specs.Layout.{slots};
+ghost use Rattle.check_equality.specs.Layout.{slots, left_sides};
 ghost use Rattle.check_state.specs.States.{facts};
-ghost use Rattle.check_scans.specs.Sides.{mentions_key};
-ghost use Rattle.check_scans.specs.Scans.{same_sides, Scanned, NoPath, touches, marked_key, path_key_of};
+ghost use Rattle.check_scans.specs.Sides.{mentions_key, Tells};
+ghost use Rattle.check_scans.specs.Scans.{same_sides, Scanned, NoPath, marked_key, path_key_of};
 
 use check_equality::State;
 pub use keys::{mentions, rename};
@@ -26,45 +26,25 @@ pub fn trivial(c: u8, left: u64, right: u64) -> bool
     false
 }
 
-// Has a fact the side k, or one term on both sides?
-fn has_key(left: u64, right: u64, k: u64) -> bool
-    ensures { result ≡ touches (λ l. nat_eq l k) left right }
+// The first fact that has a side that passes, or one term on both sides; or the count of facts.
+fn first_touched<'a, F: Fn(u64) -> bool>(
+    key: &'a [u64; State::SLOTS],
+    b: &'a [u8; State::BYTES],
+    passes: F,
+) -> usize
+    requires few { facts b.now ≤ most_facts }
+    requires callable { F.IsAlwaysCallable passes }
+    ensures { (test : ℕ → Bool) → Tells (F.post passes) test key.now (left_sides + 2 * facts b.now) → Scanned test key.now b.now result }
 {
-    if left == k {
-        return true;
+    let n = b[State::FACTS] as usize;
+    for i in 0..n {
+        let left = key[State::LEFT + 2 * i];
+        let right = key[State::RIGHT + 2 * i];
+        if passes(left) || passes(right) || left == right {
+            return i;
+        }
     }
-    if right == k {
-        return true;
-    }
-    left == right
-}
-
-// Has a fact a side that names x, or one term on both sides?
-fn has_name(left: u64, right: u64, x: u8) -> bool
-    ensures { result ≡ touches (mentions_key x) left right }
-{
-    if keys::mentions(left, x) {
-        return true;
-    }
-    if keys::mentions(right, x) {
-        return true;
-    }
-    left == right
-}
-
-// Has a fact a side whose place is marked, or one term on both sides?
-fn has_mark(left: u64, right: u64, marks: &[bool; State::MARKS]) -> bool
-    ensures { result ≡ touches (marked_key marks.now) left right }
-{
-    let p = check_equality::place(left);
-    if marks[p] {
-        return true;
-    }
-    let q = check_equality::place(right);
-    if marks[q] {
-        return true;
-    }
-    left == right
+    n
 }
 
 // The first fact that the key k's being dropped may change, or the count of facts.
@@ -72,15 +52,7 @@ pub fn first_with<'a>(key: &'a [u64; State::SLOTS], b: &'a [u8; State::BYTES], k
     requires { facts b.now ≤ most_facts }
     ensures { Scanned (λ l. nat_eq l k) key.now b.now result }
 {
-    let n = b[State::FACTS] as usize;
-    let mut i = 0;
-    while i < n {
-        if has_key(key[State::LEFT + 2 * i], key[State::RIGHT + 2 * i], k) {
-            return i;
-        }
-        i += 1;
-    }
-    i
+    first_touched(key, b, |l| l == k)
 }
 
 // The first fact that x's being dropped or renamed may change, or the count of facts.
@@ -88,15 +60,7 @@ pub fn first_naming<'a>(key: &'a [u64; State::SLOTS], b: &'a [u8; State::BYTES],
     requires { facts b.now ≤ most_facts }
     ensures { Scanned (mentions_key x) key.now b.now result }
 {
-    let n = b[State::FACTS] as usize;
-    let mut i = 0;
-    while i < n {
-        if has_name(key[State::LEFT + 2 * i], key[State::RIGHT + 2 * i], x) {
-            return i;
-        }
-        i += 1;
-    }
-    i
+    first_touched(key, b, |l| keys::mentions(l, x))
 }
 
 // The first fact that the dropping of keys whose places are marked may change, or the count of facts.
@@ -108,15 +72,7 @@ pub fn first_marked<'a>(
     requires { facts b.now ≤ most_facts }
     ensures { Scanned (marked_key marks.now) key.now b.now result }
 {
-    let n = b[State::FACTS] as usize;
-    let mut i = 0;
-    while i < n {
-        if has_mark(key[State::LEFT + 2 * i], key[State::RIGHT + 2 * i], marks) {
-            return i;
-        }
-        i += 1;
-    }
-    i
+    first_touched(key, b, |l| marks[check_equality::place(l)])
 }
 
 // Does a key name x, and is it not x itself?
@@ -134,12 +90,10 @@ pub fn has_path(key: &[u64; State::SLOTS], from: usize, m: usize, x: u8) -> bool
     requires { (from ≤ m) × (m ≤ slots) }
     ensures { result ≡ false → NoPath key.now from m x }
 {
-    let mut i = from;
-    while i < m {
+    for i in from..m {
         if path_of(key[i], x) {
             return true;
         }
-        i += 1;
     }
     false
 }

@@ -1,14 +1,31 @@
 // The sides of the facts, in the slots from LEFT to m, that are dropped: `gone` has the flag i where the side in slot i is. And those that
 // are renamed: the new key is stored where the old one stood.
-ghost use Rattle.std.specs.Prelude.{◌≡◌, ◌≤◌, nat_eq};
+ghost use Rattle.std.specs.Prelude.{◌≡◌, ℕ, ◌≤◌, Bool, length, nat_eq};
 ghost use Rattle.check_equality.specs.Layout.{slots, left_sides};
 ghost use Rattle.check_equality.specs.Links.{Header, picked};
 ghost use Rattle.check_entries.specs.PathsOut.{key_dropped, OutMarked};
-ghost use Rattle.check_scans.specs.Sides.{renamed_key, mentions_key, Dropped, MappedKeys};
+ghost use Rattle.check_scans.specs.Sides.{renamed_key, mentions_key, Dropped, MappedKeys, Tells};
 
 use crate::keys;
 use check_equality::State;
 use rules::Machine;
+
+// The sides from slot `from` on that pass are dropped, the others not.
+fn drop_sides<'a, F: Fn(u64) -> bool>(
+    key: &'a [u64; State::SLOTS],
+    from: usize,
+    m: usize,
+    passes: F,
+    gone: &mut [bool; State::SLOTS],
+)
+    requires within { (left_sides ≤ from) × (m ≤ slots) × (length gone.old ≡ slots) }
+    requires callable { F.IsAlwaysCallable passes }
+    ensures { (test : ℕ → Bool) → Tells (F.post passes) test key.now m → Dropped test key.now from gone.old → Dropped test key.now m gone.new }
+{
+    for i in from..m {
+        gone[i] = passes(key[i]);
+    }
+}
 
 // The path of the key k is dropped.
 pub fn drop_path<'a>(
@@ -21,11 +38,7 @@ pub fn drop_path<'a>(
     requires { (left_sides ≤ from) × (m ≤ slots) × Dropped (λ l. nat_eq l k) key.now from gone.old }
     ensures { Dropped (λ l. nat_eq l k) key.now m gone.new }
 {
-    let mut i = from;
-    while i < m {
-        gone[i] = key[i] == k;
-        i += 1;
-    }
+    drop_sides(key, from, m, |l| l == k, gone);
 }
 
 // All that names x is dropped.
@@ -39,11 +52,7 @@ pub fn drop_variable<'a>(
     requires { (left_sides ≤ from) × (m ≤ slots) × Dropped (mentions_key x) key.now from gone.old }
     ensures { Dropped (mentions_key x) key.now m gone.new }
 {
-    let mut i = from;
-    while i < m {
-        gone[i] = keys::mentions(key[i], x);
-        i += 1;
-    }
+    drop_sides(key, from, m, |l| keys::mentions(l, x), gone);
 }
 
 // The paths of the entries that are out are dropped, but for names still listed.
@@ -60,10 +69,23 @@ pub fn drop_paths<'a>(
     ensures { Dropped (key_dropped b.now out.now) key.now m gone.new }
 {
     let n = b[State::ENTRIES] as usize;
-    let mut i = from;
-    while i < m {
-        gone[i] = check_entries::names_dropped(b, out, marks, n, key[i]);
-        i += 1;
+    drop_sides(
+        key,
+        from,
+        m,
+        |l| check_entries::names_dropped(b, out, marks, n, l),
+        gone,
+    );
+}
+
+// The keys of the sides from slot `from` on by a map.
+fn map_sides<F: Fn(u64) -> u64>(key: &mut [u64; State::SLOTS], from: usize, m: usize, map: F)
+    requires within { (left_sides ≤ from) × (m ≤ slots) × Header key.old }
+    requires callable { F.IsAlwaysCallable map }
+    ensures { (f : ℕ → ℕ) → Tells (F.post map) f key.old m → MappedKeys f key.old from key.old → MappedKeys f key.old m key.new }
+{
+    for i in from..m {
+        key[i] = map(key[i]);
     }
 }
 
@@ -72,18 +94,7 @@ pub fn rename_keys(key: &mut [u64; State::SLOTS], m: usize, x: u8, to: u8)
     requires { (m ≤ slots) × Header key.old }
     ensures { MappedKeys (renamed_key x to) key.old m key.new }
 {
-    let mut i = State::LEFT;
-    while i < m {
-        let k = key[i];
-        key[i] = keys::rename(k, x, to);
-        i += 1;
-    }
-}
-
-fn choose(k: u64, from: u64, to: u64) -> u64
-    ensures { result ≡ picked from to k }
-{
-    if k == from { to } else { k }
+    map_sides(key, State::LEFT, m, |k| keys::rename(k, x, to));
 }
 
 // The key t for each key k, from slot `from` on.
@@ -91,10 +102,5 @@ pub fn swap_key(key: &mut [u64; State::SLOTS], from: usize, m: usize, k: u64, t:
     requires { (left_sides ≤ from) × (m ≤ slots) × MappedKeys (picked k t) key.old from key.old }
     ensures { MappedKeys (picked k t) key.old m key.new }
 {
-    let mut i = from;
-    while i < m {
-        let l = key[i];
-        key[i] = choose(l, k, t);
-        i += 1;
-    }
+    map_sides(key, from, m, |l| check_equality::pick(l, k, t));
 }

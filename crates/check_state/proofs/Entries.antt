@@ -4,25 +4,24 @@ use mathlib.Core.Bool.{Bool, true, false, cond}
 use mathlib.Core.List.{List, [], ◌∷◌}
 use mathlib.Core.Option.{none, some}
 use mathlib.Core.Logic.{◌⊎◌, inl, inr, ⊎_elim}
-use Prim.Native.Nat.{ℕ, zero, suc, ◌+◌, ◌-◌, ◌≤◌, ◌<◌}
+use Prim.Native.Nat.{ℕ, zero, suc, ◌-◌, ◌≤◌, ◌<◌}
 use native.Mathlib.Omega.{arith}
 use lib.Dec.{eqb, ltb, leb}
-use lib.ListN.{length, get_or, set, replicate, get_or-replicate, get_or-eq_default, length-replicate, length-set, length-drop}
-use lib.Seq.{get_or-set_same, get_or-set_other, get_or-drop}
-use borrow.Author.Tests.{ne_eqb, eqb-true, lt-ltb, le-leb, lt-leb, ltb-true, ltb-false}
+use lib.ListN.{length, get_or, replicate, get_or-replicate, get_or-eq_default, length-replicate, length-drop}
+use lib.Seq.{get_or-drop}
+use borrow.Author.Tests.{eqb-true, lt-ltb, le-leb, lt-leb, ltb-true, ltb-false}
 use Rattle.rules.specs.Base.{ok, no, ◌>>=◌, or_else, first}
 use Rattle.rules.specs.Limits.{most_permissions}
 use Rattle.rules.specs.Answers.{unresolved}
 use Rattle.rules.specs.Syntax.{var, path, acc, read, chain, is_path}
 use Rattle.rules.specs.State as Rules
 use Rattle.rules.specs.State.{Equality, equal_in, equal_by, representative, entry_of, names, path_of}
-use Rattle.rules.proofs.Lists.{decide_eq}
 use Rattle.check_equality.specs.Layout.{read_kind, acc_kind, chain_kind, kinds_at, bytes}
 use Rattle.check_equality.specs.Keys.{term_of}
 use Rattle.check_equality.specs.Listing.{listed}
 use Rattle.check_equality.proofs.Listing.{first-append, first-here, first_found}
 use Rattle.check_state.specs.States.{facts_of, permission_at, permissions_of, permit_of, kind_at, kinds_of, IsKind, KindsIn, state_of, entries}
-use Rattle.check_state.specs.Questions.{FirstPlace, Bytes, entry_test, passes, in_range, path_at, stands_for, variable_or}
+use Rattle.check_state.specs.Questions.{FirstPlace, Bytes, entry_test, passes, in_range, path_at, stands_for}
 
 pub no-flags : (n i : ℕ) → get_or (replicate n false) i false ≡ false
 no-flags n i = ⊎_elim (λ h. h) (λ h. h) (go (ltb i n) refl)
@@ -30,14 +29,6 @@ no-flags n i = ⊎_elim (λ h. h) (λ h. h) (go (ltb i n) refl)
     go : (c : Bool) → ltb i n ≡ c → (get_or (replicate n false) i false ≡ false) ⊎ (get_or (replicate n false) i false ≡ false)
     go true e = inl (get_or-replicate n i false false (ltb-true i n e))
     go false e = inr (get_or-eq_default (replicate n false) false {n = i} (rw (length-replicate n false) (ltb-false i n e)))
-
--- one more number
-pub bytes-more : (f : ℕ → ℕ) (i : ℕ) (r : List ℕ) (v : ℕ) → i < most_permissions → Bytes f i r → v ≡ f i → Bytes f (i + 1) (set r i v)
-bytes-more f i r v h B e =
-    record {
-      size = length-set r i v ∙ B.size;
-      at = λ j g. ⊎_elim (λ d. rw d (get_or-set_same r i v 0 (omega (arith, B.size)) ∙ e)) (λ d. get_or-set_other r i j v 0 d ∙ B.at j (omega arith)) (decide_eq j i);
-    }
 
 -- the kinds that the entries have
 pub own-kinds : (b : List ℕ) → length b ≡ bytes → Bytes (kind_at b) most_permissions (kinds_of b)
@@ -106,7 +97,3 @@ module _ (key b : List ℕ) (x k v : ℕ) (e : term_of k ≡ var x) (F : FirstPl
 
   pub stand-in-found : v < 15 → some v ≡ Rules.stand_in (state_of key b) x
   stand-in-found h = sym (is ∙ first_found test (λ i. i) 15 v h (first-here test (λ i. i) v none_yet (F.found h)))
-
-pub a-variable : (v : ℕ) → v < 15 → variable_or v ≡ some v
-unfolding variable_or
-a-variable v h = rw (ne_eqb v 255 (omega arith))

@@ -1,6 +1,7 @@
 -- What the functions that read a state answer.
-use Rattle.std.specs.Prelude.{◌≡◌, Bool, true, false, not, cond, ◌&&◌, List, ℕ, ◌≤◌, ◌<◌, eqb, ltb, leb, length, get_or}
-use Rattle.std.proofs.Math.Option.{Option, none, some}
+use Rattle.std.specs.Prelude.{◌≡◌, Bool, true, false, not, cond, ◌&&◌, List, ℕ, ◌≤◌, ◌<◌, eqb, ltb, leb, length, get_or, Option, Some, None}
+use Rattle.std.proofs.Math.Option as Math
+use Rattle.std.proofs.Math.Option.{none, some}
 use Rattle.rules.specs.Base.{Try, ok, no}
 use Rattle.rules.specs.Answers.{Refusal, unresolved}
 use Rattle.rules.specs.Limits.{most_permissions}
@@ -11,7 +12,6 @@ use Rattle.check_equality.specs.Layout.{slots, left_sides}
 use Rattle.check_equality.specs.Keys.{term_of}
 use Rattle.check_equality.specs.Listing.{listed}
 use Rattle.check_equality.specs.Links.{Header, Decides}
-use Rattle.check_state.specs.declared.Resolved.{Resolved}
 use Rattle.check_state.specs.States.{variable_at, field_at, permission_at, entries}
 
 pub record Slots (key b : List ℕ) (m : ℕ) : Type 0 where
@@ -49,9 +49,10 @@ entry_test b kinds least most t g ◌~◌ i = passes ◌~◌ t g (in_range least
 abbrev pub places : ℕ → List ℕ
 places n = listed (λ i. i) n
 
-unfoldable pub resolved_as : Resolved → Try Refusal Rules.Term
-resolved_as (Resolved.Key k) = ok (term_of k)
-resolved_as Resolved.Nothing = no unresolved
+-- a term by its key, or that an expression is unresolved
+unfoldable pub resolved_as : Option ℕ → Try Refusal Rules.Term
+resolved_as (Some k) = ok (term_of k)
+resolved_as None = no unresolved
 
 -- the path of entry i
 unfoldable pub path_at : List ℕ → ℕ → Try Refusal Rules.Term
@@ -61,8 +62,10 @@ path_at b i = cond (ltb i (entries b)) (ok (path_of (permission_at b i))) (no un
 abbrev pub no_variable : ℕ
 no_variable = 255
 
-unfoldable pub variable_or : ℕ → Option ℕ
-variable_or v = cond (eqb v no_variable) none (some v)
+-- a variable, or none, as the rules have it
+unfoldable pub variable_or : Option ℕ → Math.Option ℕ
+variable_or (Some v) = some v
+variable_or None = none
 
 -- another variable than x, and ~ t
 unfoldable pub stands_for : Equality → ℕ → Rules.Term → ℕ → Bool

@@ -79,8 +79,7 @@ fn find<'a>(
     ensures { Told key.now b.now m (λ same. FirstPlace (entry_test b.now kinds.now least most (term_of k) f same) n result) }
 {
     let a = check_equality::label_of(key, b, m, k);
-    let mut i = 0;
-    while i < n {
+    for i in 0..n {
         if b[State::FIELDS + i] == f {
             if names(
                 key,
@@ -94,7 +93,6 @@ fn find<'a>(
                 return i;
             }
         }
-        i += 1;
     }
     n
 }
@@ -108,13 +106,6 @@ pub fn equal<'a>(key: &'a [u64; State::SLOTS], b: &'a [u8; State::BYTES], t: u64
     let x = check_equality::label_of(key, b, m, t);
     let y = check_equality::label_of(key, b, m, u);
     check_equality::alike(t, x, u, y)
-}
-
-// A term by its key, or none.
-#[derive(Clone, Copy)]
-pub enum Resolved {
-    Key(u64),
-    Nothing,
 }
 
 // The place of the first entry by f of a variable ~ the term of k, or the count of entries: its kind, that `kinds` has, is one of those
@@ -152,17 +143,14 @@ pub fn listed_entry<'a>(
     entry(key, b, &all[State::KINDS..], least, most, k, f)
 }
 
-fn path_at(b: &[u8; State::BYTES], i: usize) -> Resolved
+fn path_at(b: &[u8; State::BYTES], i: usize) -> Option<u64>
     requires { entries b.now ≤ most_permissions }
     ensures { resolved_as result ≡ path_at b.now i }
 {
     if i < (b[State::ENTRIES] as usize) {
-        return Resolved::Key(check_equality::path_key(
-            b[State::VARIABLES + i],
-            b[State::FIELDS + i],
-        ));
+        return Some(check_equality::path_key(b[State::VARIABLES + i], b[State::FIELDS + i]));
     }
-    Resolved::Nothing
+    None
 }
 
 // The kinds of the entries.
@@ -170,21 +158,17 @@ pub fn kinds(b: &[u8; State::BYTES]) -> [u8; Machine::PERMISSIONS]
     ensures { Bytes (kind_at b.now) most_permissions result }
 {
     let mut all = [0; Machine::PERMISSIONS];
-    let mut i = 0;
-    while i < Machine::PERMISSIONS {
-        all[i] = b[State::KINDS + i];
-        i += 1;
-    }
+    all.copy_from_slice(&b[State::KINDS..]);
     all
 }
 
-// What an expression resolves to: for a path any entry serves that is one.
-pub fn resolve<'a>(key: &'a [u64; State::SLOTS], b: &'a [u8; State::BYTES], e: Term) -> Resolved
+// The key of what an expression resolves to: for a path any entry serves that is one.
+pub fn resolve<'a>(key: &'a [u64; State::SLOTS], b: &'a [u8; State::BYTES], e: Term) -> Option<u64>
     requires { Wf key.now b.now }
     ensures { resolved_as result ≡ Rules.resolve (equal_in (state_of key.now b.now)) (permissions_of b.now) (meaning e) }
 {
     let Term::Path(y, f) = e else {
-        return Resolved::Key(check_equality::key_of(e));
+        return Some(check_equality::key_of(e));
     };
     let k = check_equality::variable_key(y);
     path_at(b, listed_entry(key, b, State::READ, State::ACC, k, f))
@@ -221,18 +205,16 @@ pub fn first_variable<'a>(
     requires { Slots key.now b.now m × Labelled key.now b.now m k a }
     ensures { Told key.now b.now m (λ same. FirstPlace (stands_for same x (term_of k)) null_slot result) }
 {
-    let mut v = 0;
-    while v < State::VARIABLE_COUNT {
+    for v in 0..State::VARIABLE_COUNT {
         if stands_for(key, b, m, v, x, k, a) {
             return v;
         }
-        v += 1;
     }
     State::VARIABLE_COUNT
 }
 
-// The first other variable ~ x, or NO_VARIABLE.
-pub fn stand_in<'a>(key: &'a [u64; State::SLOTS], b: &'a [u8; State::BYTES], x: u8) -> u8
+// The first other variable ~ x.
+pub fn stand_in<'a>(key: &'a [u64; State::SLOTS], b: &'a [u8; State::BYTES], x: u8) -> Option<u8>
     requires { Wf key.now b.now }
     ensures { variable_or result ≡ Rules.stand_in (state_of key.now b.now) x }
 {
@@ -241,7 +223,7 @@ pub fn stand_in<'a>(key: &'a [u64; State::SLOTS], b: &'a [u8; State::BYTES], x: 
     let a = check_equality::label_of(key, b, m, k);
     let v = first_variable(key, b, m, x, k, a);
     if v < State::VARIABLE_COUNT {
-        return v;
+        return Some(v);
     }
-    State::NO_VARIABLE
+    None
 }

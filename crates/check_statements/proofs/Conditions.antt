@@ -2,6 +2,7 @@
 use mathlib.Core.Path.{◌≡◌, refl, sym, ap, ap₂, ◌∙◌}
 use mathlib.Core.Bool.{Bool, true, false, not}
 use mathlib.Core.List.{List, [], ◌∷◌, ◌++◌}
+use Rattle.std.specs.Prelude.{Ok, Err}
 use mathlib.Core.Option.{some}
 use Prim.Native.Nat.{ℕ}
 use Rattle.rules.specs.Base.{Try, ok, no, ◌>>=◌, ◌>>◌, check}
@@ -12,12 +13,12 @@ use Rattle.rules.specs.State.{Permission}
 use Rattle.rules.specs.Rules.{End, opposite, if_rule, show_end, loop_rule}
 use Rattle.rules.proofs.Tries.{no_ok}
 use Rattle.check_equality.specs.Links.{rel_of}
-use Rattle.check_entailment.specs.declared.Answer.{Answer}
+use Rattle.check_entailment.specs.declared.Refusal as Declared
 use Rattle.check_state.specs.States.{Wf, state_of}
-use Rattle.check_entailment.specs.Answers.{answered, Adds}
-use Rattle.check_formulas.proofs.Atoms.{not_done, is_done, bind-bind}
+use Rattle.check_entailment.specs.Answers.{Answer, answered, Adds}
+use Rattle.check_formulas.proofs.Atoms.{bind-bind}
 use Rattle.check_statements.specs.Statements.{Parts, Says, only_known}
-use Rattle.check_statements.proofs.Ruled.{Refused, adds_same, adds-refused, adds_on, adds-no, after-done, after-refused, bind-answered}
+use Rattle.check_statements.proofs.Ruled.{adds_same, adds-refused, adds_on, adds-no, after-done, after-refused, bind-answered}
 
 -- a relation by what its sides are
 pub sides-add :
@@ -63,39 +64,38 @@ module _ (n : Rel) (a b : Rules.Term) (s : Rules.State) where
   if-second = second-of state_full (with_fact n) (with_fact (opposite n)) _ _ _
 
 -- a pair by its two sides
-module _ {A B : Type 0} (t : Try Refusal (A × B)) (k : Answer) (x : A) (e : answered k x ≡ (t >>= λ p. ok p.0)) where
-  pair-refused : Refused k → (z : A × B) → answered k z ≡ t
-  unfolding ◌>>=◌
-  pair-refused o z = sym (not_done k o x (λ y. t) z) ∙ ap (λ (u : Try Refusal A). u >>= λ y. t) e ∙ go t
+module _ {A B : Type 0} (t : Try Refusal (A × B)) (x : A) where
+  pair-refused : (r : Declared.Refusal) → answered (Err r) x ≡ (t >>= λ p. ok p.0) → (z : A × B) → answered (Err r) z ≡ t
+  unfolding answered ◌>>=◌
+  pair-refused r e z = ap (λ (u : Try Refusal A). u >>= λ y. t) e ∙ go t
     where
       go : (t : Try Refusal (A × B)) → ((t >>= λ p. ok p.0) >>= λ y. t) ≡ t
       go (ok p) = refl
       go (no r) = refl
 
-  pair-done : k ≡ Answer.Done → (l : Answer) (y : B) → answered l y ≡ (t >>= λ p. ok p.1) → answered l (x, y) ≡ t
-  unfolding ◌>>=◌
-  pair-done d l y f =
-      sym (bind-answered l y (λ y. ok (x, y)) (x, y) refl) ∙ ap (λ (u : Try Refusal B). u >>= λ y. ok (x, y)) f
-      ∙ go t (sym (is_done k d x ok) ∙ ap (λ (u : Try Refusal A). u >>= ok) e)
+  pair-done : answered (Ok tt) x ≡ (t >>= λ p. ok p.0) → (l : Answer) (y : B) → answered l y ≡ (t >>= λ p. ok p.1) → answered l (x, y) ≡ t
+  unfolding answered ◌>>=◌
+  pair-done e l y f =
+      sym (bind-answered l y (λ y. ok (x, y)) (x, y) refl) ∙ ap (λ (u : Try Refusal B). u >>= λ y. ok (x, y)) f ∙ go t (ap (λ (u : Try Refusal A). u >>= ok) e)
     where
       go : (t : Try Refusal (A × B)) → ok x ≡ ((t >>= λ p. ok p.0) >>= ok) → ((t >>= λ p. ok p.1) >>= λ y. ok (x, y)) ≡ t
       go (ok p) g = ap (λ (u : Try Refusal A). u >>= λ x. ok (x, p.1)) g
       go (no r) g = refl
 
-module _ (n : Rel) (a c : Rules.Term) (s : Rules.State) (k : Answer) (key b key2 b2 : List ℕ) (A : Adds (Rules.add (cmp n a c ∷ []) s) k key b) where
-  pub if-refused : Wf key2 b2 → Refused k → Parts (if_rule n a c s) k key b key2 b2
-  if-refused w o =
-      record { first = A.wf; second = w; same = pair-refused _ k _ (A.same ∙ sym (if-first n a c s)) o (state_of key b, state_of key2 b2) }
+module _ (n : Rel) (a c : Rules.Term) (s : Rules.State) (key b key2 b2 : List ℕ) where
+  pub if-refused : (r : Declared.Refusal) → Adds (Rules.add (cmp n a c ∷ []) s) (Err r) key b → Wf key2 b2 → Parts (if_rule n a c s) (Err r) key b key2 b2
+  if-refused r A w =
+      record { first = A.wf; second = w; same = pair-refused _ _ r (A.same ∙ sym (if-first n a c s)) (state_of key b, state_of key2 b2) }
 
   pub if-done :
-      k ≡ Answer.Done → (m : Rel) → m ≡ opposite n → (s₂ : Rules.State) → s₂ ≡ s → (l : Answer) →
+      Adds (Rules.add (cmp n a c ∷ []) s) (Ok tt) key b → (m : Rel) → m ≡ opposite n → (s₂ : Rules.State) → s₂ ≡ s → (l : Answer) →
       Adds (Rules.add (cmp m a c ∷ []) s₂) l key2 b2 → Parts (if_rule n a c s) l key b key2 b2
-  if-done d m em s₂ es l C =
+  if-done A m em s₂ es l C =
       record {
         first = A.wf;
         second = C.wf;
         same =
-            pair-done _ k _ (A.same ∙ sym (if-first n a c s)) d l _
+            pair-done _ _ (A.same ∙ sym (if-first n a c s)) l _
             (C.same ∙ ap₂ (λ (m : Rel) (s : Rules.State). Rules.add (cmp m a c ∷ []) s) em es ∙ sym (if-second n a c s));
       }
 
@@ -105,21 +105,21 @@ other true = refl
 other false = refl
 
 -- LOOP
-module _ (n : Rel) (l r : Rules.Term) (φ : Formula ℕ) (e : End) (k : Answer) (S : Says (show_end φ e) k) where
-  pub invariant-unshown : (key b : List ℕ) → Wf key b → Refused k → Adds (only_known n l r φ e) k key b
+module _ (n : Rel) (l r : Rules.Term) (φ : Formula ℕ) (e : End) where
+  pub invariant-unshown : (q : Declared.Refusal) → Says (show_end φ e) (Err q) → (key b : List ℕ) → Wf key b → Adds (only_known n l r φ e) (Err q) key b
   unfolding only_known
-  invariant-unshown key b w o = adds-no k key b w _ (after-refused _ k tt S _ o (state_of key b))
+  invariant-unshown q S key b w = adds-no (Err q) key b w _ (after-refused _ tt _ q S (state_of key b))
 
-  module _ (d : k ≡ Answer.Done) (m : Answer) (key b : List ℕ) (A : Adds (Rules.add φ Rules.empty) m key b) where
-    pub invariant-refused : Refused m → Adds (only_known n l r φ e) m key b
+  module _ (S : Says (show_end φ e) (Ok tt)) (key b : List ℕ) where
+    pub invariant-refused : (q : Declared.Refusal) → Adds (Rules.add φ Rules.empty) (Err q) key b → Adds (only_known n l r φ e) (Err q) key b
     unfolding only_known
-    invariant-refused o = adds_same _ _ m key b (sym (after-done _ k tt S _ d)) (adds-refused _ m key b A _ o)
+    invariant-refused q A = adds_same _ _ (Err q) key b (sym (after-done _ tt _ S)) (adds-refused _ key b _ q A)
 
     pub invariant-known :
-        m ≡ Answer.Done → (m' : Answer) (key' b' : List ℕ) → Adds (Rules.add (cmp n l r ∷ []) (state_of key b)) m' key' b' →
-        Adds (only_known n l r φ e) m' key' b'
+        Adds (Rules.add φ Rules.empty) (Ok tt) key b → (m : Answer) (key' b' : List ℕ) → Adds (Rules.add (cmp n l r ∷ []) (state_of key b)) m key' b' →
+        Adds (only_known n l r φ e) m key' b'
     unfolding only_known
-    invariant-known f m' key' b' C = adds_same _ _ m' key' b' (sym (after-done _ k tt S _ d)) (adds_on _ m key b A _ f m' key' b' C)
+    invariant-known A m key' b' C = adds_same _ _ m key' b' (sym (after-done _ tt _ S)) (adds_on _ key b _ A m key' b' C)
 
 -- the two states of a loop: one at its `loop`, and where there is that, the other at its `again`, whatever the body leaves
 module _ (n : Rel) (l r : Rules.Term) (φ : Formula ℕ) where
@@ -141,8 +141,8 @@ module _ (n : Rel) (l r : Rules.Term) (φ : Formula ℕ) where
   pub loop-states :
       (s : Rules.State) (k : Answer) (x : Rules.State) → answered k x ≡ only_known n l r φ (some s) →
       (after : Rules.State) × (answered k (x, after) ≡ loop_rule n l r φ s)
-      × (k ≡ Answer.Done → (e : End) → only_known (opposite n) l r φ e ≡ (show_end φ e >>= λ u. ok after))
-  unfolding loop_rule show_end ◌>>=◌
+      × (k ≡ Ok tt → (e : End) → only_known (opposite n) l r φ e ≡ (show_end φ e >>= λ u. ok after))
+  unfolding loop_rule show_end ◌>>=◌ answered
   loop-states s k x e = go states refl (e ∙ known-first (some s))
     where
       paired : (f : Rules.State → Rules.State × Rules.State) (t : Try Refusal Rules.State) → answered k x ≡ t → answered k (f x) ≡ (t >>= λ y. ok (f y))
@@ -163,7 +163,7 @@ module _ (n : Rel) (l r : Rules.Term) (φ : Formula ℕ) where
       go :
           (t : Try Refusal (Rules.State × Rules.State)) → states ≡ t → answered k x ≡ (show_end φ (some s) >>= λ u. t >>= λ c. ok c.0) →
           (after : Rules.State) × (answered k (x, after) ≡ loop_rule n l r φ s)
-          × (k ≡ Answer.Done → (e : End) → only_known (opposite n) l r φ e ≡ (show_end φ e >>= λ u. ok after))
+          × (k ≡ Ok tt → (e : End) → only_known (opposite n) l r φ e ≡ (show_end φ e >>= λ u. ok after))
       go (ok p) d e = (
         p.1,
         paired (λ y. (y, p.1)) _ e ∙ shown p (Rules.show s φ) ∙ ap (λ (t : Try Refusal (Rules.State × Rules.State)). Rules.show s φ >>= λ r. t) (sym d),
@@ -172,5 +172,5 @@ module _ (n : Rel) (l r : Rules.Term) (φ : Formula ℕ) where
       go (no q) d e = (
         x,
         paired (λ y. (y, y)) _ e ∙ unshown (λ y. (y, y)) q (Rules.show s φ) ∙ ap (λ (t : Try Refusal (Rules.State × Rules.State)). Rules.show s φ >>= λ r. t) (sym d),
-        λ f e'. never q (Rules.show s φ) (ap (λ (u : Try Refusal Rules.State). u >>= ok) (sym e) ∙ is_done k f x ok),
+        λ f e'. never q (Rules.show s φ) (ap (λ (u : Try Refusal Rules.State). u >>= ok) (sym e) ∙ ap (λ (k : Answer). answered k x >>= ok) f),
       )

@@ -2,6 +2,7 @@
 use mathlib.Core.Path.{◌≡◌, refl, sym, ap, ap₂, ◌∙◌, subst}
 use mathlib.Core.Bool.{Bool, true, false, cond}
 use mathlib.Core.List.{List, [], ◌∷◌, map}
+use Rattle.std.specs.Prelude.{Ok, Err}
 use mathlib.Core.Option.{Option, none, some}
 use Prim.Native.Nat.{ℕ, suc, ◌+◌, ◌*◌, ◌-◌, ◌≤◌, ◌<◌}
 use native.Mathlib.Omega.{arith}
@@ -10,7 +11,7 @@ use lib.ListN.{get_or, set}
 use borrow.Author.Tests.{eq-eqb, ne_eqb, eqb-true, lt-ltb}
 use Rattle.rules.specs.Base.{Try, ok, no, ◌>>=◌, ◌>>◌, check, or_else}
 use Rattle.rules.specs.Limits.{most_permissions}
-use Rattle.rules.specs.Answers.{Refusal, unresolved, no_permission, not_shown}
+use Rattle.rules.specs.Answers.{Refusal, no_permission}
 use Rattle.rules.specs.Syntax.{Formula, Atom, same, eq, ne, num, null, var, path, acc, own, cmp}
 use Rattle.rules.specs.State as Rules
 use Rattle.rules.specs.State.{Permission, Split, entry, equal_in, giving, split, path_of, holds_in}
@@ -21,43 +22,40 @@ use Rattle.check_equality.specs.Keys.{term_of}
 use Rattle.check_equality.specs.Layout.{acc_kind, chain_kind}
 use Rattle.check_equality.specs.Links.{rel_of}
 use Rattle.check_equality.proofs.Keys.{same_key, of-null}
-use Rattle.check_entailment.specs.declared.Answer.{Answer}
-use Rattle.check_state.specs.declared.Resolved.{Resolved}
+use Rattle.check_entailment.specs.declared.Refusal as Declared
+use Rattle.check_entailment.specs.declared.Refusal.TheVariants.{NotShown}
 use Rattle.check_state.specs.States.{Wf, state_of, entries, variable_at, field_at, kind_at, permit_of, permission_at, permissions_of, is_path_at}
 use Rattle.check_state.specs.Questions.{FirstPlace, Bytes, entry_test}
-use Rattle.check_successors.specs.Successors.{term_or}
 use Rattle.check_entries.specs.Entries.{entry_left, left_of}
 use Rattle.check_forgetting.specs.Changes.{Becomes, without_path}
-use Rattle.check_entailment.specs.Answers.{answered, most_serving, Adds}
+use Rattle.check_entailment.specs.Answers.{Answer, refusal_of, answered, most_serving, Adds}
 use Rattle.check_entailment.proofs.Splits.{left-none, left-first}
 use Rattle.check_entailment.proofs.Showing.{serving}
 use Rattle.check_formulas.specs.Formulas.{formula, Shows}
-use Rattle.check_formulas.proofs.Atoms.{not_done, is_done, start_fits, start_left}
-use Rattle.check_statements.specs.Statements.{assign_term, call_shown, initial_of, Says, Asserts, end_of, release_rule}
-
-abbrev pub Refused : Answer → Type 0
-Refused k = k ≡ Answer.Done → ⊥
+use Rattle.check_formulas.proofs.Atoms.{start_fits, start_left}
+use Rattle.check_statements.specs.Statements.{assign_term, call_shown, object_shown, initial_of, Says, Asserts, end_of, release_rule}
 
 -- ONE AFTER THE OTHER
 pub adds_same : (t u : Try Refusal Rules.State) (k : Answer) (key b : List ℕ) → t ≡ u → Adds t k key b → Adds u k key b
 adds_same t u k key b e A = record { wf = A.wf; same = A.same ∙ e }
 
-module _ {A B : Type 0} (t : Try Refusal A) (k : Answer) (a : A) (S : answered k a ≡ t) (f : A → Try Refusal B) where
-  pub after-done : k ≡ Answer.Done → (t >>= f) ≡ f a
-  after-done e = ap (λ (u : Try Refusal A). u >>= f) (sym S) ∙ is_done k e a f
+module _ {A B : Type 0} (t : Try Refusal A) (a : A) (f : A → Try Refusal B) where
+  pub after-done : answered (Ok tt) a ≡ t → (t >>= f) ≡ f a
+  unfolding answered ◌>>=◌
+  after-done S = ap (λ (u : Try Refusal A). u >>= f) (sym S)
 
-  pub after-refused : Refused k → (c : B) → (t >>= f) ≡ answered k c
-  after-refused o c = ap (λ (u : Try Refusal A). u >>= f) (sym S) ∙ not_done k o a f c
+  pub after-refused : (r : Declared.Refusal) → answered (Err r) a ≡ t → (c : B) → (t >>= f) ≡ answered (Err r) c
+  unfolding answered ◌>>=◌
+  after-refused r S c = ap (λ (u : Try Refusal A). u >>= f) (sym S)
 
-pub adds-refused : (t : Try Refusal Rules.State) (k : Answer) (key b : List ℕ) → Adds t k key b → (f : Rules.State → Try Refusal Rules.State) → Refused k → Adds (t >>= f) k key b
-adds-refused t k key b A f o = record { wf = A.wf; same = sym (after-refused t k (state_of key b) A.same f o (state_of key b)) }
+module _ (t : Try Refusal Rules.State) (key b : List ℕ) (f : Rules.State → Try Refusal Rules.State) where
+  pub adds-refused : (r : Declared.Refusal) → Adds t (Err r) key b → Adds (t >>= f) (Err r) key b
+  adds-refused r A = record { wf = A.wf; same = sym (after-refused t (state_of key b) f r A.same (state_of key b)) }
 
-pub adds_on :
-    (t : Try Refusal Rules.State) (k : Answer) (key b : List ℕ) → Adds t k key b → (f : Rules.State → Try Refusal Rules.State) → k ≡ Answer.Done →
-    (k' : Answer) (key' b' : List ℕ) → Adds (f (state_of key b)) k' key' b' → Adds (t >>= f) k' key' b'
-adds_on t k key b A f e k' key' b' Q = adds_same _ _ k' key' b' (sym (after-done t k (state_of key b) A.same f e)) Q
+  pub adds_on : Adds t (Ok tt) key b → (k : Answer) (key' b' : List ℕ) → Adds (f (state_of key b)) k key' b' → Adds (t >>= f) k key' b'
+  adds_on A k key' b' Q = adds_same _ _ k key' b' (sym (after-done t (state_of key b) f A.same)) Q
 
-pub adds-ok : (key b : List ℕ) → Wf key b → Adds (ok (state_of key b)) Answer.Done key b
+pub adds-ok : (key b : List ℕ) → Wf key b → Adds (ok (state_of key b)) (Ok tt) key b
 unfolding answered
 adds-ok key b w = record { wf = w; same = refl }
 
@@ -108,15 +106,11 @@ module _ (key b : List ℕ) (w : Wf key b) (kinds : List ℕ) (B : Bytes (kind_a
   set_found_lem h = let (c, e, d) = shown_by_lem h in rw (e, d)
 
 -- LET
-pub equal-none : (x : ℕ) (k : Resolved) (key b : List ℕ) → Wf key b → k ≡ Resolved.Nothing → Adds (add_equal x (term_or k) (state_of key b)) Answer.Done key b
-unfolding add_equal term_or
-equal-none x k key b w e = rw e (adds-ok key b w)
-
 pub equal-some :
-    (x t v : ℕ) (k : Resolved) (s : Rules.State) (r : Answer) (key b : List ℕ) → term_of v ≡ var x → k ≡ Resolved.Key t →
-    Adds (Rules.add_fact (rel_of false) (term_of v) (term_of t) s) r key b → Adds (add_equal x (term_or k) s) r key b
-unfolding add_equal term_or rel_of
-equal-some x t v k s r key b d e A = rw (e, ← d) A
+    (x t v : ℕ) (s : Rules.State) (r : Answer) (key b : List ℕ) → term_of v ≡ var x →
+    Adds (Rules.add_fact (rel_of false) (term_of v) (term_of t) s) r key b → Adds (add_equal x (some (term_of t)) s) r key b
+unfolding add_equal rel_of
+equal-some x t v s r key b d A = rw (← d) A
 
 pub assign-same : (x k v : ℕ) (s : Rules.State) → term_of v ≡ var x → k ≡ v → assign_term x (term_of k) s ≡ ok s
 unfolding assign_term
@@ -130,9 +124,11 @@ pub assign-found : (x : ℕ) (e t : Rules.Term) (s : Rules.State) → Rules.reso
 unfolding assign_rule assign_term ◌>>=◌
 assign-found x e t s d = rw d
 
-pub assign-lost : (x : ℕ) (e : Rules.Term) (s : Rules.State) → Rules.resolve (equal_in s) s.permissions e ≡ no unresolved → assign_rule x e s ≡ no unresolved
-unfolding assign_rule ◌>>=◌
-assign-lost x e s d = rw d
+pub assign-lost :
+    (x : ℕ) (e : Rules.Term) (key b : List ℕ) → Wf key b → (r : Declared.Refusal) → no (refusal_of r) ≡ Rules.resolve (equal_in (state_of key b)) (permissions_of b) e →
+    Adds (assign_rule x e (state_of key b)) (Err r) key b
+unfolding assign_rule ◌>>=◌ answered
+assign-lost x e key b w r d = adds-no (Err r) key b w _ (rw (← d))
 
 -- NEW
 module _ (w : List ℕ) (c : ℕ) where
@@ -146,9 +142,6 @@ module _ (w : List ℕ) (c : ℕ) where
   pub fields-end : (n j : ℕ) → n ≤ j → fields_from w c j (n - j) ≡ []
   unfolding run
   fields-end n j h = let e : n - j ≡ 0 = omega arith in ap (λ (k : ℕ). fields_from w c j k) e
-
-  pub fields-all : (n : ℕ) → fields_from w c 0 n ≡ fields_from w c 0 (n - 0)
-  fields-all n = let e : n ≡ n - 0 = omega arith in ap (λ (k : ℕ). fields_from w c 0 k) e
 
   module _ (x : ℕ) (n j : ℕ) (h : j < n) (s : Rules.State) where
     pub permission-more : add_fields x (fields_from w c j (n - j)) s ≡ (Rules.add_permission (entry acc x (field_name_at w c j)) s >>= λ t. add_fields x (fields_from w c (j + 1) (n - (j + 1))) t)
@@ -206,14 +199,14 @@ pub plain-term : (t : Rules.Term) → subst_term (actual 0 1 14) t ≡ t
 plain-term t = itself-term t
 
 -- ASSERT, RELEASE
-pub bind-answered : {A B : Type 0} (k : Answer) (a : A) (f : A → Try Refusal B) (b : B) → f a ≡ ok b → (answered k a >>= f) ≡ answered k b
-unfolding answered ◌>>=◌
-bind-answered Answer.Done a f b e = e
-bind-answered Answer.Unresolved a f b e = refl
-bind-answered Answer.NoPermission a f b e = refl
-bind-answered Answer.NotShown a f b e = refl
-bind-answered Answer.Full a f b e = refl
-bind-answered Answer.Malformed a f b e = refl
+module _ {A B : Type 0} (k : Answer) (a : A) (f : A → Try Refusal B) where
+  pub bind-answered : (b : B) → f a ≡ ok b → (answered k a >>= f) ≡ answered k b
+  unfolding answered ◌>>=◌
+  bind-answered b e = go k
+    where
+      go : (k : Answer) → (answered k a >>= f) ≡ answered k b
+      go (Ok u) = e
+      go (Err r) = refl
 
 pub assert-law : (key b : List ℕ) (φ : Formula ℕ) (k : Answer) (left : List ℕ) → Shows key b φ k left → Asserts φ (state_of key b) k
 unfolding show_end
@@ -228,47 +221,66 @@ asserted φ key b k w e = record { wf = w; same = go (Rules.show (state_of key b
     go (ok r) e = sym (bind-answered k tt (λ u. ok (state_of key b)) (state_of key b) refl) ∙ ap (λ (u : Try Refusal (Unit {0})). u >>= λ v. ok (state_of key b)) e
     go (no f) e = sym (bind-answered k tt (λ u. ok (state_of key b)) (state_of key b) refl) ∙ ap (λ (u : Try Refusal (Unit {0})). u >>= λ v. ok (state_of key b)) e
 
-pub release-law :
-    (key b key' b' : List ℕ) (φ : Formula ℕ) (k : Answer) (left : List ℕ) → Shows key b φ k left →
-    Becomes (Rules.remainder (state_of key b) (left_of b left)) key' b' → Adds (release_rule φ (state_of key b)) k key' b'
-unfolding release_rule
-release-law key b key' b' φ k left S R =
-    record { wf = R.wf; same = sym (ap (λ (u : Try Refusal (List Permission)). u >>= λ r. ok (Rules.remainder (state_of key b) r)) (sym S) ∙ bind-answered k (left_of b left) (λ r. ok (Rules.remainder (state_of key b) r)) (state_of key' b') (ap ok (sym R.same))) }
+module _ (key b : List ℕ) (φ : Formula ℕ) (left : List ℕ) where
+  pub release-refused : (r : Declared.Refusal) → Shows key b φ (Err r) left → Wf key b → Adds (release_rule φ (state_of key b)) (Err r) key b
+  unfolding release_rule
+  release-refused r S w = adds-no (Err r) key b w _ (after-refused _ (left_of b left) _ r S (state_of key b))
+
+  pub release-law :
+      (key' b' : List ℕ) → Shows key b φ (Ok tt) left → Becomes (Rules.remainder (state_of key b) (left_of b left)) key' b' →
+      Adds (release_rule φ (state_of key b)) (Ok tt) key' b'
+  unfolding release_rule
+  release-law key' b' S R = adds_same _ _ (Ok tt) key' b' (sym (after-done _ (left_of b left) _ S ∙ ap ok (sym R.same))) (adds-ok key' b' R.wf)
 
 -- CALL
-module _ (w : List ℕ) (x y m z : ℕ) (key b : List ℕ) (a n c o : ℕ) (ea : a ≡ half_at w (method_place m)) (en : n ≡ byte_at w (method_place m + 2)) (ec : c ≡ half_at w (method_place m + 4)) (eo : o ≡ byte_at w (method_place m + 3)) (k : Answer) (left : List ℕ) (S : Shows key b (formula w y z x a n) k left) where
-  shown-first : call_shown x y (method_at w m) z (state_of key b) ≡ (answered k (left_of b left) >>= λ r. Rules.add (formula w y z x c o) (Rules.remove x (Rules.remainder (state_of key b) r)))
-  unfolding call_shown method_at requires_at ensures_at formula
-  shown-first = rw (S, ea, en, ec, eo)
-
-  pub call-refused : Wf key b → Refused k → Adds (call_shown x y (method_at w m) z (state_of key b)) k key b
-  call-refused W r = record { wf = W; same = sym (shown-first ∙ not_done k r _ _ (state_of key b)) }
+module _ (w : List ℕ) (x y m z : ℕ) (key b : List ℕ) (a n : ℕ) (ea : a ≡ half_at w (method_place m)) (en : n ≡ byte_at w (method_place m + 2)) (left : List ℕ) where
+  pub call-refused : (r : Declared.Refusal) → Shows key b (formula w y z x a n) (Err r) left → Wf key b → Adds (call_shown x y (method_at w m) z (state_of key b)) (Err r) key b
+  unfolding call_shown method_at requires_at formula
+  call-refused r S W = adds-no (Err r) key b W _ (after-refused _ (left_of b left) _ r (S ∙ rw (ea, en)) (state_of key b))
 
   pub call-done :
-      k ≡ Answer.Done → (key₁ b₁ key₂ b₂ : List ℕ) → Becomes (Rules.remainder (state_of key b) (left_of b left)) key₁ b₁ →
-      Becomes (Rules.remove x (state_of key₁ b₁)) key₂ b₂ → (r : Answer) (key₃ b₃ : List ℕ) → Adds (Rules.add (formula w y z x c o) (state_of key₂ b₂)) r key₃ b₃ →
+      Shows key b (formula w y z x a n) (Ok tt) left → (key₁ b₁ key₂ b₂ : List ℕ) → Becomes (Rules.remainder (state_of key b) (left_of b left)) key₁ b₁ →
+      Becomes (Rules.remove x (state_of key₁ b₁)) key₂ b₂ → (c o : ℕ) → c ≡ half_at w (method_place m + 4) → o ≡ byte_at w (method_place m + 3) →
+      (r : Answer) (key₃ b₃ : List ℕ) → Adds (Rules.add (formula w y z x c o) (state_of key₂ b₂)) r key₃ b₃ →
       Adds (call_shown x y (method_at w m) z (state_of key b)) r key₃ b₃
-  call-done e key₁ b₁ key₂ b₂ R Q r key₃ b₃ A =
-      adds_same _ _ r key₃ b₃ (sym (shown-first ∙ is_done k e _ _ ∙ rw (← R.same, ← Q.same))) A
+  unfolding call_shown method_at requires_at ensures_at formula
+  call-done S key₁ b₁ key₂ b₂ R Q c o ec eo r key₃ b₃ A =
+      adds_same _ _ r key₃ b₃ (sym (after-done _ (left_of b left) _ (S ∙ rw (ea, en)) ∙ rw (← ec, ← eo, ← R.same, ← Q.same))) A
 
 -- is y ≠ null shown?
-pub object-shown :
-    (y v : ℕ) (s : Rules.State) (c : Bool) → term_of v ≡ var y → c ≡ holds_in (equal_in s) s (rel_of true) (term_of v) (term_of 256) →
-    holds_in (equal_in s) s ne (var y) null ≡ c
-unfolding rel_of
-object-shown y v s c d e = rw (← d, ← of-null) (sym e)
+module _ (y v : ℕ) (s : Rules.State) (d : term_of v ≡ var y) where
+  object-tested : holds_in (equal_in s) s (rel_of true) (term_of v) (term_of 256) ≡ holds_in (equal_in s) s ne (var y) null
+  unfolding rel_of
+  object-tested = rw (d, of-null)
+
+  pub object-yes : true ≡ holds_in (equal_in s) s (rel_of true) (term_of v) (term_of 256) → Says (object_shown y s) (Ok tt)
+  unfolding object_shown check answered
+  object-yes e = rw (← (e ∙ object-tested))
+
+  pub object-no : false ≡ holds_in (equal_in s) s (rel_of true) (term_of v) (term_of 256) → Says (object_shown y s) (Err NotShown)
+  unfolding object_shown check answered refusal_of
+  object-no e = rw (← (e ∙ object-tested))
+
+-- the rules that ask so
+module _ (y : ℕ) (s : Rules.State) where
+  pub null-stops : {A : Type 0} (t : Try Refusal A) (r : Declared.Refusal) → Says (object_shown y s) (Err r) → (c : A) → (object_shown y s >> t) ≡ answered (Err r) c
+  unfolding answered ◌>>◌
+  null-stops t r S c = rw (← S)
+
+  pub object-passes : {A : Type 0} (t : Try Refusal A) → Says (object_shown y s) (Ok tt) → (object_shown y s >> t) ≡ t
+  unfolding answered ◌>>◌
+  object-passes t S = rw (← S)
 
 pub call-null :
-    (w : List ℕ) (x y m z v : ℕ) (s : Rules.State) → term_of v ≡ var y → false ≡ holds_in (equal_in s) s (rel_of true) (term_of v) (term_of 256) →
-    call_rule x y (method_at w m) z s ≡ no not_shown
-unfolding call_rule check ◌>>◌
-call-null w x y m z v s d e = rw (object-shown y v s false d e)
+    (w : List ℕ) (x y m z : ℕ) (key b : List ℕ) → Wf key b → (r : Declared.Refusal) → Says (object_shown y (state_of key b)) (Err r) →
+    Adds (call_rule x y (method_at w m) z (state_of key b)) (Err r) key b
+unfolding call_rule object_shown
+call-null w x y m z key b W r S = adds-no (Err r) key b W _ (null-stops y (state_of key b) _ r S (state_of key b))
 
 pub call-object :
-    (w : List ℕ) (x y m z v : ℕ) (s : Rules.State) → term_of v ≡ var y → true ≡ holds_in (equal_in s) s (rel_of true) (term_of v) (term_of 256) →
-    call_shown x y (method_at w m) z s ≡ call_rule x y (method_at w m) z s
-unfolding call_rule call_shown check ◌>>◌
-call-object w x y m z v s d e = rw (object-shown y v s true d e)
+    (w : List ℕ) (x y m z : ℕ) (s : Rules.State) → Says (object_shown y s) (Ok tt) → call_shown x y (method_at w m) z s ≡ call_rule x y (method_at w m) z s
+unfolding call_rule call_shown object_shown
+call-object w x y m z s S = sym (object-passes y s _ S)
 
 pub new-law :
     (w : List ℕ) (x c n : ℕ) (s t : Rules.State) → n ≡ field_count_at w c → t ≡ Rules.remove x s →
@@ -289,37 +301,34 @@ field-fact p x f i t s e d = rw (e, d)
 
 -- ENDS
 module _ (φ : Formula ℕ) (s : Rules.State) (returned : Bool) where
-  pub end-returned : returned ≡ true → Says (show_end φ (end_of returned s)) Answer.Done
+  pub end-returned : returned ≡ true → Says (show_end φ (end_of returned s)) (Ok tt)
   unfolding show_end answered
   end-returned e = rw e
 
-  pub end-shown : returned ≡ false → (k : Answer) → Asserts φ s k → Says (show_end φ (end_of returned s)) k
-  end-shown e k S = rw e S
-
 -- RETURN
-module _ (x : ℕ) (φ : Formula ℕ) (s : Rules.State) (k : Answer) (key b : List ℕ) (A : Adds (assign_rule 14 (var x) s) k key b) where
-  pub return_refused : Refused k → Says (return_rule x φ s) k
+module _ (x : ℕ) (φ : Formula ℕ) (s : Rules.State) (key b : List ℕ) where
+  pub return_refused : (r : Declared.Refusal) → Adds (assign_rule 14 (var x) s) (Err r) key b → Says (return_rule x φ s) (Err r)
   unfolding return_rule
-  return_refused o = sym (after-refused _ k (state_of key b) A.same _ o tt)
+  return_refused r A = sym (after-refused _ (state_of key b) _ r A.same tt)
 
-  pub return-shown : k ≡ Answer.Done → (l : Answer) → Asserts φ (state_of key b) l → Says (return_rule x φ s) l
+  pub return-shown : Adds (assign_rule 14 (var x) s) (Ok tt) key b → (l : Answer) → Asserts φ (state_of key b) l → Says (return_rule x φ s) l
   unfolding return_rule show_end
-  return-shown e l S = S ∙ sym (after-done _ k (state_of key b) A.same _ e)
+  return-shown A l S = S ∙ sym (after-done _ (state_of key b) _ A.same)
 
 -- JOIN
-module _ (φ : Formula ℕ) (e₁ e₂ : End) (k : Answer) (S : Says (show_end φ e₁) k) where
-  pub join_first : (key b : List ℕ) → Wf key b → Refused k → Adds (join_rule φ e₁ e₂) k key b
+module _ (φ : Formula ℕ) (e₁ e₂ : End) where
+  pub join_first : (r : Declared.Refusal) → Says (show_end φ e₁) (Err r) → (key b : List ℕ) → Wf key b → Adds (join_rule φ e₁ e₂) (Err r) key b
   unfolding join_rule
-  join_first key b w o = adds-no k key b w _ (after-refused _ k tt S _ o (state_of key b))
+  join_first r S key b w = adds-no (Err r) key b w _ (after-refused _ tt _ r S (state_of key b))
 
-  module _ (d : k ≡ Answer.Done) (l : Answer) (Q : Says (show_end φ e₂) l) where
-    pub join-second : (key b : List ℕ) → Wf key b → Refused l → Adds (join_rule φ e₁ e₂) l key b
+  module _ (S : Says (show_end φ e₁) (Ok tt)) where
+    pub join-second : (r : Declared.Refusal) → Says (show_end φ e₂) (Err r) → (key b : List ℕ) → Wf key b → Adds (join_rule φ e₁ e₂) (Err r) key b
     unfolding join_rule
-    join-second key b w o = adds-no l key b w _ (after-done _ k tt S _ d ∙ after-refused _ l tt Q _ o (state_of key b))
+    join-second r Q key b w = adds-no (Err r) key b w _ (after-done _ tt _ S ∙ after-refused _ tt _ r Q (state_of key b))
 
-    pub join-done : l ≡ Answer.Done → (m : Answer) (key b : List ℕ) → Adds (Rules.add φ Rules.empty) m key b → Adds (join_rule φ e₁ e₂) m key b
+    pub join-done : Says (show_end φ e₂) (Ok tt) → (m : Answer) (key b : List ℕ) → Adds (Rules.add φ Rules.empty) m key b → Adds (join_rule φ e₁ e₂) m key b
     unfolding join_rule
-    join-done f m key b A = adds_same _ _ m key b (sym (after-done _ k tt S _ d ∙ after-done _ l tt Q _ f)) A
+    join-done Q m key b A = adds_same _ _ m key b (sym (after-done _ tt _ S ∙ after-done _ tt _ Q)) A
 
 pub empty-add : (w : List ℕ) (a n : ℕ) (s : Rules.State) → s ≡ Rules.empty → Rules.add (formula w 0 1 14 a n) s ≡ Rules.add (atoms_from w a n) Rules.empty
 empty-add w a n s d = ap₂ (λ (φ : Formula ℕ) (s : Rules.State). Rules.add φ s) (plain w a n) d

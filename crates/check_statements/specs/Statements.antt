@@ -1,16 +1,15 @@
 -- What the rules of statements answer.
 use Rattle.std.specs.Prelude.{◌≡◌, Bool, cond, not, List, [], ◌∷◌, map, ℕ, ◌-◌, eqb}
 use Rattle.std.proofs.Math.Option.{Option, none, some}
-use Rattle.rules.specs.Base.{Try, ok, ◌>>=◌}
-use Rattle.rules.specs.Answers.{Refusal}
-use Rattle.rules.specs.Syntax.{Formula, Rel, Method, same, eq, num, null, var, path, acc, chain, cmp}
+use Rattle.rules.specs.Base.{Try, ok, ◌>>=◌, check}
+use Rattle.rules.specs.Answers.{Refusal, not_shown}
+use Rattle.rules.specs.Syntax.{Formula, Rel, Method, same, eq, ne, num, null, var, path, acc, chain, cmp}
 use Rattle.rules.specs.Rules.{End, add_equal, actual, subst_atom, show_end, join_rule}
 use Rattle.rules.specs.State as Rules
-use Rattle.rules.specs.State.{entry}
+use Rattle.rules.specs.State.{entry, equal_in, holds_in}
 use Rattle.tables.specs.Decode.{left_at, right_at, atoms_from}
-use Rattle.check_entailment.specs.declared.Answer.{Answer}
 use Rattle.check_state.specs.States.{Wf, state_of}
-use Rattle.check_entailment.specs.Answers.{answered, Adds}
+use Rattle.check_entailment.specs.Answers.{Answer, answered, Adds}
 
 -- the arrays then hold the states of two branches, or an answer says why there are none
 pub record Parts (t : Try Refusal (Rules.State × Rules.State)) (answer : Answer) (key b key2 b2 : List ℕ) : Type 0 where
@@ -48,6 +47,10 @@ unfoldable pub assign_term : ℕ → Rules.Term → Rules.State → Try Refusal 
 assign_term x r s =
     let to : Option ℕ = Rules.stand_in s x in
     cond (same r (var x)) (ok s) (add_equal x (Rules.removed_term x to s r) (Rules.remove_to x to s))
+
+-- y ≠ null is shown
+unfoldable pub object_shown : ℕ → Rules.State → Try Refusal (Unit {0})
+object_shown y s = check (holds_in (equal_in s) s ne (var y) null) not_shown
 
 -- `call`, where y ≠ null is shown
 unfoldable pub call_shown : ℕ → ℕ → Method → ℕ → Rules.State → Try Refusal Rules.State

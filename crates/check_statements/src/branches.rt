@@ -10,7 +10,7 @@ ghost use Rattle.check_state.specs.States.{Wf, state_of};
 ghost use Rattle.check_entailment.specs.Answers.{Adds};
 ghost use Rattle.check_statements.specs.Statements.{Parts, end_of, JoinGives, loop_known};
 
-use check_entailment::Answer;
+use check_entailment::Refusal;
 use check_equality::{State, Term};
 
 // `if eq l r`, or where `apart` `if ne l r`: the condition in the first state, its opposite in the second, which is a copy of the first.
@@ -22,14 +22,11 @@ pub fn if_rule(
     apart: bool,
     l: Term,
     r: Term,
-) -> Answer
+) -> Result<(), Refusal>
     requires { Wf key.old b.old × (key2.old ≡ key.old) × (b2.old ≡ b.old) }
     ensures { Parts (if_rule (rel_of apart) (meaning l) (meaning r) (state_of key.old b.old)) result key.new b.new key2.new b2.new }
 {
-    let k = check_entailment::add_relation(key, b, apart, l, r);
-    let Answer::Done = k else {
-        return k;
-    };
+    check_entailment::add_relation(key, b, apart, l, r)?;
     check_entailment::add_relation(key2, b2, !apart, l, r)
 }
 
@@ -44,18 +41,12 @@ pub fn join_rule<'a>(
     returned2: bool,
     key2: &'a [u64; State::SLOTS],
     b2: &'a [u8; State::BYTES],
-) -> Answer
+) -> Result<(), Refusal>
     requires { (length w.now ≡ work_bytes) × (a + n ≤ most_atom_rows) × Wf key.old b.old × Wf key2.now b2.now }
     ensures { JoinGives (atoms_from w.now a n) returned key.old b.old returned2 key2.now b2.now result key.new b.new }
 {
-    let k = crate::show_end(w, a, n, returned, key, b);
-    let Answer::Done = k else {
-        return k;
-    };
-    let l = crate::show_end(w, a, n, returned2, key2, b2);
-    let Answer::Done = l else {
-        return l;
-    };
+    crate::show_end(w, a, n, returned, key, b)?;
+    crate::show_end(w, a, n, returned2, key2, b2)?;
     check_forgetting::clear(b);
     check_formulas::add(w, a, n, State::THIS, State::PARAM, State::RESULT, key, b)
 }
@@ -70,19 +61,13 @@ pub fn loop_rule(
     apart: bool,
     key: &mut [u64; State::SLOTS],
     b: &mut [u8; State::BYTES],
-) -> Answer
+) -> Result<(), Refusal>
     requires { (length w.now ≡ work_bytes) × (1 ≤ a) × (a + n ≤ most_atom_rows) × Wf key.old b.old }
     ensures { Adds (loop_known w.now a n (rel_of apart) (end_of returned (state_of key.old b.old))) result key.new b.new }
 {
-    let shown = crate::show_end(w, a, n, returned, key, b);
-    let Answer::Done = shown else {
-        return shown;
-    };
+    crate::show_end(w, a, n, returned, key, b)?; // The invariant is shown here.
     check_forgetting::clear(b);
-    let added = check_formulas::add(w, a, n, State::THIS, State::PARAM, State::RESULT, key, b);
-    let Answer::Done = added else {
-        return added;
-    };
+    check_formulas::add(w, a, n, State::THIS, State::PARAM, State::RESULT, key, b)?;
     let condition = a - 1;
     let l = check_formulas::left(w, condition, State::THIS, State::PARAM, State::RESULT);
     let r = check_formulas::right(w, condition, State::THIS, State::PARAM, State::RESULT);

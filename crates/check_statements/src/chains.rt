@@ -5,9 +5,8 @@ ghost use Rattle.check_state.specs.States.{Wf, state_of};
 ghost use Rattle.check_entailment.specs.Answers.{Adds};
 ghost use Rattle.check_statements.specs.Statements.{add_opened, open_shown, shut_path};
 
-use check_entailment::Answer;
+use check_entailment::Refusal;
 use check_equality::{State, Term};
-use check_state::Resolved;
 
 // `x.f` listed, `x.f` = y, and the chain of y.
 fn add_opened(
@@ -16,20 +15,14 @@ fn add_opened(
     y: u8,
     x: u8,
     f: u8,
-) -> Answer
+) -> Result<(), Refusal>
     requires { Wf key.old b.old }
     ensures { Adds (add_opened y x f (state_of key.old b.old)) result key.new b.new }
 {
-    let k = check_entailment::add_permission(b, State::ACC, x, f);
-    let Answer::Done = k else {
-        return k;
-    };
+    check_entailment::add_permission(b, State::ACC, x, f)?;
     let path = check_equality::path_key(x, f);
     let value = check_equality::variable_key(y);
-    let l = check_entailment::add_fact(key, b, false, path, value);
-    let Answer::Done = l else {
-        return l;
-    };
+    check_entailment::add_fact(key, b, false, path, value)?;
     check_entailment::add_permission(b, State::CHAIN, y, f)
 }
 
@@ -40,16 +33,13 @@ fn open_shown(
     y: u8,
     x: u8,
     f: u8,
-) -> Answer
+) -> Result<(), Refusal>
     requires { Wf key.old b.old }
     ensures { Adds (open_shown y x f (state_of key.old b.old)) result key.new b.new }
 {
     let mut left = check_state::kinds(b);
     let v = check_equality::variable_key(x);
-    let k = check_entailment::take(key, b, &mut left, State::CHAIN, v, f);
-    let Answer::Done = k else {
-        return k;
-    };
+    check_entailment::take(key, b, &mut left, State::CHAIN, v, f)?;
     check_forgetting::remainder(key, b, &left);
     check_forgetting::remove(key, b, y);
     add_opened(key, b, y, x, f)
@@ -62,15 +52,12 @@ pub fn open_rule(
     y: u8,
     x: u8,
     f: u8,
-) -> Answer
+) -> Result<(), Refusal>
     requires { Wf key.old b.old }
     ensures { Adds (open_rule y x f (state_of key.old b.old)) result key.new b.new }
 {
-    let v = check_equality::variable_key(x);
-    if check_inequality::holds(key, b, true, v, State::NULL_KEY) {
-        return open_shown(key, b, y, x, f);
-    }
-    Answer::NotShown
+    crate::object(key, b, x)?;
+    open_shown(key, b, y, x, f)
 }
 
 // `shut x f`, where `x.f` resolves to the term of p.
@@ -80,31 +67,28 @@ fn shut_path(
     x: u8,
     f: u8,
     p: u64,
-) -> Answer
+) -> Result<(), Refusal>
     requires { Wf key.old b.old }
     ensures { Adds (shut_path x f (term_of p) (state_of key.old b.old)) result key.new b.new }
 {
     let mut left = check_state::kinds(b);
-    let k = check_entailment::take(key, b, &mut left, State::CHAIN, p, f);
-    let Answer::Done = k else {
-        return k;
-    };
+    check_entailment::take(key, b, &mut left, State::CHAIN, p, f)?;
     let v = check_equality::variable_key(x);
-    let l = check_entailment::take(key, b, &mut left, State::ACC, v, f);
-    let Answer::Done = l else {
-        return l;
-    };
+    check_entailment::take(key, b, &mut left, State::ACC, v, f)?;
     check_forgetting::remainder(key, b, &left);
     check_entailment::add_permission(b, State::CHAIN, x, f)
 }
 
 // `shut x f`
-pub fn shut_rule(key: &mut [u64; State::SLOTS], b: &mut [u8; State::BYTES], x: u8, f: u8) -> Answer
+pub fn shut_rule(
+    key: &mut [u64; State::SLOTS],
+    b: &mut [u8; State::BYTES],
+    x: u8,
+    f: u8,
+) -> Result<(), Refusal>
     requires { Wf key.old b.old }
     ensures { Adds (shut_rule x f (state_of key.old b.old)) result key.new b.new }
 {
-    let Resolved::Key(p) = check_state::resolve(key, b, Term::Path(x, f)) else {
-        return Answer::NoPermission;
-    };
+    let p = check_state::resolve(key, b, Term::Path(x, f)).ok_or(Refusal::NoPermission)?;
     shut_path(key, b, x, f, p)
 }

@@ -15,13 +15,12 @@ ghost use Rattle.check_equality.specs.Keys.{term_of, meaning};
 ghost use Rattle.check_state.specs.States.{Wf, state_of};
 ghost use Rattle.check_successors.specs.Successors.{term_or};
 ghost use Rattle.check_entailment.specs.Answers.{Adds};
-ghost use Rattle.check_statements.specs.Statements.{assign_term, call_shown, Says, Asserts, end_of, release_rule};
+ghost use Rattle.check_statements.specs.Statements.{assign_term, call_shown, object_shown, Says, Asserts, end_of, release_rule};
 
 pub use branches::{if_rule, join_rule, loop_rule};
 pub use chains::{open_rule, shut_rule};
-use check_entailment::Answer;
+use check_entailment::Refusal;
 use check_equality::{State, Term};
-use check_state::Resolved;
 pub use objects::new_rule;
 
 // `set x f y`: the old value of the path that shows `acc x f`, by both halves, is dropped, and the path is y.
@@ -31,7 +30,7 @@ pub fn set_rule(
     x: u8,
     f: u8,
     y: u8,
-) -> Answer
+) -> Result<(), Refusal>
     requires { Wf key.old b.old }
     ensures { Adds (set_rule x f y (state_of key.old b.old)) result key.new b.new }
 {
@@ -42,7 +41,7 @@ pub fn set_rule(
         check_forgetting::without_path(key, b, i, path);
         return check_entailment::add_fact(key, b, false, path, check_equality::variable_key(y));
     }
-    Answer::NoPermission
+    Err(Refusal::NoPermission)
 }
 
 // x = k, where the term is left.
@@ -50,24 +49,29 @@ fn add_equal(
     key: &mut [u64; State::SLOTS],
     b: &mut [u8; State::BYTES],
     x: u8,
-    k: Resolved,
-) -> Answer
+    k: Option<u64>,
+) -> Result<(), Refusal>
     requires { Wf key.old b.old }
     ensures { Adds (add_equal x (term_or k) (state_of key.old b.old)) result key.new b.new }
 {
-    let Resolved::Key(t) = k else {
-        return Answer::Done;
-    };
-    check_entailment::add_fact(key, b, false, check_equality::variable_key(x), t)
+    match k {
+        Some(t) => check_entailment::add_fact(key, b, false, check_equality::variable_key(x), t),
+        None => Ok(()),
+    }
 }
 
 // `let x e`, where e resolves to the term of k.
-fn assign_key(key: &mut [u64; State::SLOTS], b: &mut [u8; State::BYTES], x: u8, k: u64) -> Answer
+fn assign_key(
+    key: &mut [u64; State::SLOTS],
+    b: &mut [u8; State::BYTES],
+    x: u8,
+    k: u64,
+) -> Result<(), Refusal>
     requires { Wf key.old b.old }
     ensures { Adds (assign_term x (term_of k) (state_of key.old b.old)) result key.new b.new }
 {
     if k == check_equality::variable_key(x) {
-        return Answer::Done;
+        return Ok(());
     }
     let to = check_state::stand_in(key, b, x);
     let r = check_forgetting::removed(key, b, k, x, to);
@@ -81,13 +85,11 @@ pub fn assign_rule(
     b: &mut [u8; State::BYTES],
     x: u8,
     e: Term,
-) -> Answer
+) -> Result<(), Refusal>
     requires { Wf key.old b.old }
     ensures { Adds (assign_rule x (meaning e) (state_of key.old b.old)) result key.new b.new }
 {
-    let Resolved::Key(k) = check_state::resolve(key, b, e) else {
-        return Answer::Unresolved;
-    };
+    let k = check_state::resolve(key, b, e).ok_or(Refusal::Unresolved)?;
     assign_key(key, b, x, k)
 }
 
@@ -98,7 +100,7 @@ pub fn assert_rule<'a>(
     b: &'a [u8; State::BYTES],
     a: usize,
     n: usize,
-) -> Answer
+) -> Result<(), Refusal>
     requires { (length w.now ≡ work_bytes) × (a + n ≤ most_atom_rows) × Wf key.now b.now }
     ensures { Asserts (atoms_from w.now a n) (state_of key.now b.now) result }
 {
@@ -124,12 +126,12 @@ pub fn show_end<'a>(
     returned: bool,
     key: &'a [u64; State::SLOTS],
     b: &'a [u8; State::BYTES],
-) -> Answer
+) -> Result<(), Refusal>
     requires { (length w.now ≡ work_bytes) × (a + n ≤ most_atom_rows) × Wf key.now b.now }
     ensures { Says (show_end (atoms_from w.now a n) (end_of returned (state_of key.now b.now))) result }
 {
     if returned {
-        return Answer::Done;
+        return Ok(());
     }
     assert_rule(w, key, b, a, n)
 }
@@ -142,14 +144,11 @@ pub fn return_rule(
     x: u8,
     a: usize,
     n: usize,
-) -> Answer
+) -> Result<(), Refusal>
     requires { (length w.now ≡ work_bytes) × (a + n ≤ most_atom_rows) × Wf key.old b.old }
     ensures { Says (return_rule x (atoms_from w.now a n) (state_of key.old b.old)) result × Wf key.new b.new }
 {
-    let k = assign_rule(key, b, State::RESULT, Term::Var(x));
-    let Answer::Done = k else {
-        return k;
-    };
+    assign_rule(key, b, State::RESULT, Term::Var(x))?;
     assert_rule(w, key, b, a, n)
 }
 
@@ -160,12 +159,12 @@ pub fn release_rule(
     b: &mut [u8; State::BYTES],
     a: usize,
     n: usize,
-) -> Answer
+) -> Result<(), Refusal>
     requires { (length w.now ≡ work_bytes) × (a + n ≤ most_atom_rows) × Wf key.old b.old }
     ensures { Adds (release_rule (atoms_from w.now a n) (state_of key.old b.old)) result key.new b.new }
 {
     let mut left = check_state::kinds(b);
-    let k = check_formulas::show(
+    check_formulas::show(
         w,
         a,
         n,
@@ -175,9 +174,21 @@ pub fn release_rule(
         key,
         b,
         &mut left,
-    );
+    )?;
     check_forgetting::remainder(key, b, &left);
-    k
+    Ok(())
+}
+
+// y ≠ null is shown.
+fn object<'a>(key: &'a [u64; State::SLOTS], b: &'a [u8; State::BYTES], y: u8) -> Result<(), Refusal>
+    requires { Wf key.now b.now }
+    ensures { Says (object_shown y (state_of key.now b.now)) result }
+{
+    let v = check_equality::variable_key(y);
+    if check_inequality::holds(key, b, true, v, State::NULL_KEY) {
+        return Ok(());
+    }
+    Err(Refusal::NotShown)
 }
 
 // `call x y m z`, where y ≠ null is shown.
@@ -189,17 +200,14 @@ fn call_shown(
     y: u8,
     m: usize,
     z: u8,
-) -> Answer
+) -> Result<(), Refusal>
     requires { Tables w.now × (m < method_count w.now) × Wf key.old b.old }
     ensures { Adds (call_shown x y (method_at w.now m) z (state_of key.old b.old)) result key.new b.new }
 {
     let a = tables::requires_first(w, m);
     let n = tables::requires_count(w, m);
     let mut left = check_state::kinds(b);
-    let k = check_formulas::show(w, a, n, y, z, x, key, b, &mut left);
-    let Answer::Done = k else {
-        return k;
-    };
+    check_formulas::show(w, a, n, y, z, x, key, b, &mut left)?;
     check_forgetting::remainder(key, b, &left);
     check_forgetting::remove(key, b, x);
     let c = tables::ensures_first(w, m);
@@ -216,18 +224,10 @@ pub fn call_rule(
     y: u8,
     m: usize,
     z: u8,
-) -> Answer
+) -> Result<(), Refusal>
     requires { Tables w.now × (m < method_count w.now) × Wf key.old b.old }
     ensures { Adds (call_rule x y (method_at w.now m) z (state_of key.old b.old)) result key.new b.new }
 {
-    if check_inequality::holds(
-        key,
-        b,
-        true,
-        check_equality::variable_key(y),
-        State::NULL_KEY,
-    ) {
-        return call_shown(w, key, b, x, y, m, z);
-    }
-    Answer::NotShown
+    object(key, b, y)?;
+    call_shown(w, key, b, x, y, m, z)
 }

@@ -8,7 +8,7 @@ ghost use Rattle.check_state.specs.States.{Wf, state_of};
 ghost use Rattle.check_entailment.specs.Answers.{Adds};
 ghost use Rattle.check_statements.specs.Statements.{initial_of};
 
-use check_entailment::Answer;
+use check_entailment::Refusal;
 use check_equality::State;
 
 // The permissions of a new x of the class c.
@@ -19,24 +19,14 @@ fn add_fields(
     x: u8,
     c: usize,
     n: usize,
-) -> Answer
+) -> Result<(), Refusal>
     requires { (length w.now ≡ work_bytes) × (c < most_classes) × (n ≤ most_fields) × Wf key.old b.old }
     ensures { Adds (add_fields x (fields_from w.now c 0 n) (state_of key.old b.old)) result key.new b.new }
 {
-    let mut j = 0;
-    while j < n {
-        let k = check_entailment::add_permission(
-            b,
-            State::ACC,
-            x,
-            tables::field_name_at(w, c, j) as u8,
-        );
-        let Answer::Done = k else {
-            return k;
-        };
-        j += 1;
+    for j in 0..n {
+        check_entailment::add_permission(b, State::ACC, x, tables::field_name_at(w, c, j) as u8)?;
     }
-    Answer::Done
+    Ok(())
 }
 
 // The key of a new field's value: 0 for an int, or else null.
@@ -58,26 +48,15 @@ fn add_initial(
     x: u8,
     c: usize,
     n: usize,
-) -> Answer
+) -> Result<(), Refusal>
     requires { (length w.now ≡ work_bytes) × (c < most_classes) × (n ≤ most_fields) × Wf key.old b.old }
     ensures { Adds (add_initial x (fields_from w.now c 0 n) (state_of key.old b.old)) result key.new b.new }
 {
-    let mut j = 0;
-    while j < n {
+    for j in 0..n {
         let path = check_equality::path_key(x, tables::field_name_at(w, c, j) as u8);
-        let k = check_entailment::add_fact(
-            key,
-            b,
-            false,
-            path,
-            initial(tables::field_kind_at(w, c, j)),
-        );
-        let Answer::Done = k else {
-            return k;
-        };
-        j += 1;
+        check_entailment::add_fact(key, b, false, path, initial(tables::field_kind_at(w, c, j)))?;
     }
-    Answer::Done
+    Ok(())
 }
 
 // `new x C`
@@ -87,25 +66,19 @@ pub fn new_rule(
     b: &mut [u8; State::BYTES],
     x: u8,
     c: usize,
-) -> Answer
+) -> Result<(), Refusal>
     requires { (length w.now ≡ work_bytes) × (c < most_classes) × (field_count_at w.now c ≤ most_fields) × Wf key.old b.old }
     ensures { Adds (new_rule x (class_at w.now c) (state_of key.old b.old)) result key.new b.new }
 {
     let n = tables::field_count_at(w, c);
     check_forgetting::remove(key, b, x);
-    let k = add_fields(w, key, b, x, c, n);
-    let Answer::Done = k else {
-        return k;
-    };
-    let l = check_entailment::add_fact(
+    add_fields(w, key, b, x, c, n)?;
+    check_entailment::add_fact(
         key,
         b,
         true,
         check_equality::variable_key(x),
         State::NULL_KEY,
-    );
-    let Answer::Done = l else {
-        return l;
-    };
+    )?;
     add_initial(w, key, b, x, c, n)
 }

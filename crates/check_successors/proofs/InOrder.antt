@@ -6,7 +6,6 @@ use mathlib.Core.Option.{Option, none, some}
 use Prim.Native.Nat.{ℕ, zero, suc, ◌+◌, ◌*◌, ◌-◌, ◌≤◌, ◌<◌}
 use native.Mathlib.Omega.{arith}
 use lib.ListN.{get_or}
-use borrow.Author.Tests.{lt-ltb, le-ltb}
 use Rattle.rules.specs.Base.{first, bind_option}
 use Rattle.rules.specs.Syntax.{num, null, var}
 use Rattle.rules.specs.State as Rules
@@ -18,7 +17,9 @@ use Rattle.check_equality.proofs.Listing.{first-append, first-stays, first-here,
 use Rattle.check_state.specs.States.{Wf, fact_at, facts_in, facts_of, facts, entries, state_of, left_at, path_at_entry}
 use Rattle.check_state.specs.Questions.{Slots, FirstPlace, stands_for}
 use Rattle.check_state.proofs.Entries.{first-none}
-use Rattle.check_successors.specs.Successors.{Drops, path_test, entry_path_test, number_or, side_terms, least_number}
+use Rattle.std.specs.Prelude as Std
+use Rattle.std.specs.Prelude.{Some, None}
+use Rattle.check_successors.specs.Successors.{Drops, path_test, entry_path_test, number_or, Numbered, term_or, side_terms, least_number}
 
 -- BY PLACES
 module _ {A : Type 0} (p : A → Bool) (f : ℕ → A) (n r : ℕ) (F : FirstPlace (λ i. p (f i)) n r) where
@@ -139,7 +140,7 @@ module _ (key b : List ℕ) (skip : List Bool) (x t : ℕ) (ρ : Renaming) (ps :
         is-null e = sym (past-paths ∙ rw (null-test ∙ e))
 
         pub is_number :
-            alike null (term_of t) ≡ false → (k : ℕ) →
+            alike null (term_of t) ≡ false → (k : Std.Option ℕ) →
             number_or k ≡ least_number alike key (2 * facts b) t →
             bind_option (number_or k) (λ n. some (num n)) ≡ found
         unfolding first
@@ -151,15 +152,11 @@ module _ (key b : List ℕ) (skip : List Bool) (x t : ℕ) (ρ : Renaming) (ps :
             ∙ ap (λ (o : Option ℕ). bind_option o (λ n. some (num n))) (sym (L ∙ ap (λ (l : List Term). first (λ n. alike (num n) (term_of t)) (rising (numbers l))) (slots-terms key b (facts b))))))
 
 -- a number's key
-pub key-number : (k : ℕ) → 65793 ≤ k → some (term_of k) ≡ bind_option (number_or k) (λ n. some (num n))
-unfolding number_or bind_option
-key-number k h =
-    rw (le-ltb k 65793 h)
-    (let e : k ≡ 65793 + (k - 65793) = omega (arith, h) in ap (λ (j : ℕ). some (term_of j)) e ∙ ap some (of_number (k - 65793)))
-
-pub key-none : (k : ℕ) → k < 65793 → ◌≡◌ {A = Option Term} none (bind_option (number_or k) (λ n. some (num n)))
-unfolding number_or bind_option
-key-none k h = rw (lt-ltb k 65793 h)
+pub key-number : (r : Std.Option ℕ) → Numbered r → term_or r ≡ bind_option (number_or r) (λ n. some (num n))
+unfolding number_or bind_option term_or
+key-number None h = refl
+key-number (Some k) h =
+    let e : k ≡ 65793 + (k - 65793) = omega (arith, h) in ap (λ (j : ℕ). some (term_of j)) e ∙ ap some (of_number (k - 65793))
 
 pub slots : {key b : List ℕ} → Wf key b → Slots key b (16 + 2 * facts b)
 slots W = record { header = W.linked.header; some = omega arith; most = omega (arith, W.linked.fit) }

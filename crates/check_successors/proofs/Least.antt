@@ -3,6 +3,8 @@ use mathlib.Core.Path.{◌≡◌, refl, sym, ap, ◌∙◌}
 use mathlib.Core.Bool.{Bool, true, false, cond, ◌&&◌}
 use mathlib.Core.List.{List, [], ◌∷◌, ◌++◌}
 use mathlib.Core.Option.{Option, none, some}
+use Rattle.std.specs.Prelude as Std
+use Rattle.std.specs.Prelude.{Some, None}
 use Prim.Native.Nat.{ℕ, zero, suc, ◌+◌, ◌-◌, ◌/◌, ◌%◌, ◌≤◌, ◌<◌}
 use native.Mathlib.Omega.{arith}
 use lib.Dec.{eqb, ltb, leb}
@@ -18,7 +20,7 @@ use Rattle.check_equality.proofs.Keys.{of_number}
 use Rattle.check_equality.proofs.Labels.{alike}
 use Rattle.check_inequality.specs.Ways.{number_like}
 use Rattle.check_equality.specs.Listing.{listed}
-use Rattle.check_successors.specs.Successors.{number_or, offset_of, lower_of, with_slot, number_with, number_at_side, side_terms}
+use Rattle.check_successors.specs.Successors.{number_or, Numbered, offset_of, lower_of, with_slot, number_with, number_at_side, side_terms}
 
 -- what there is, or a later number that is lower
 up_to : Option ℕ → ℕ → ℕ
@@ -89,22 +91,28 @@ no_number k h = rw (lt-ltb k 65793 h) (small (ltb k 256) (eqb k 256))
     small false true = refl
     small false false = refl
 
+pub lower-numbered : (k : ℕ) (o : Std.Option ℕ) → 65793 ≤ k → Numbered o → 65793 ≤ lower_of k o
+unfolding lower_of
+lower-numbered k None h n = h
+lower-numbered k (Some l) h n = go (ltb (offset_of k) (offset_of l))
+  where
+    go : (c : Bool) → 65793 ≤ cond c k l
+    go true = h
+    go false = n
+
 -- one slot more
-module _ (p : ℕ → Bool) (ts : List Term) (best k c t a : ℕ) (so_far : number_or best ≡ least p (numbers ts)) where
-  taken : 65793 ≤ k → number_or (lower_of k best) ≡ some (up_to (least p (numbers ts)) (k - 65793))
+module _ (p : ℕ → Bool) (ts : List Term) (best : Std.Option ℕ) (k c t a : ℕ) (so_far : number_or best ≡ least p (numbers ts)) where
+  taken : number_or (Some (lower_of k best)) ≡ some (up_to (least p (numbers ts)) (k - 65793))
   unfolding number_or lower_of up_to
-  taken h = rw (← so_far) (go (ltb best 65793) refl)
+  taken = rw (← so_far) (go best)
     where
-      go :
-          (d : Bool) → ltb best 65793 ≡ d →
-          number_or (cond d k (cond (ltb (offset_of k) (offset_of best)) k best))
-          ≡ some (up_to (cond d none (some (best - 65793))) (k - 65793))
-      go true e = rw (le-ltb k 65793 h)
-      go false e = at (ltb (offset_of k) (offset_of best))
+      go : (o : Std.Option ℕ) → number_or (Some (lower_of k o)) ≡ some (up_to (number_or o) (k - 65793))
+      go None = refl
+      go (Some l) = at (ltb (offset_of k) (offset_of l))
         where
-          at : (f : Bool) → number_or (cond f k best) ≡ some (cond f (k - 65793) (best - 65793))
-          at true = rw (le-ltb k 65793 h)
-          at false = rw e
+          at : (f : Bool) → ◌≡◌ {A = Option ℕ} (some (cond f k l - 65793)) (some (cond f (k - 65793) (l - 65793)))
+          at true = refl
+          at false = refl
 
   pub slot-more : number_like k c t a ≡ (leb 65793 k && p (k - 65793)) → number_or (with_slot best k c t a) ≡ least p (numbers (ts ++ (term_of k ∷ [])))
   unfolding with_slot
@@ -112,7 +120,7 @@ module _ (p : ℕ → Bool) (ts : List Term) (best k c t a : ℕ) (so_far : numb
     where
       go :
           (d : Bool) → leb 65793 k ≡ d →
-          number_or (cond (d && p (k - 65793)) (lower_of k best) best) ≡ least p (numbers ts ++ numbers (term_of k ∷ []))
+          number_or (cond (d && p (k - 65793)) (Some (lower_of k best)) best) ≡ least p (numbers ts ++ numbers (term_of k ∷ []))
       go false e = rw (no_number k (leb-false 65793 k e)) (so_far ∙ ap (least p) (sym (append-none (numbers ts))))
         where
           append-none : (l : List ℕ) → l ++ [] ≡ l
@@ -122,8 +130,8 @@ module _ (p : ℕ → Bool) (ts : List Term) (best k c t a : ℕ) (so_far : numb
         where
           at :
               (f : Bool) →
-              number_or (cond f (lower_of k best) best) ≡ cond f (some (up_to (least p (numbers ts)) (k - 65793))) (least p (numbers ts))
-          at true = taken (leb-true 65793 k e)
+              number_or (cond f (Some (lower_of k best)) best) ≡ cond f (some (up_to (least p (numbers ts)) (k - 65793))) (least p (numbers ts))
+          at true = taken
           at false = so_far
 
 pub like-number : (k c t a : ℕ) → number_like k c t a ≡ true → 65793 ≤ k
@@ -154,12 +162,12 @@ slot-number {fs = fs} {key = key} {label = label} D low i t a h w = go (leb 6579
     go false e = refl
 
 -- THE LOOP
-pub none_yet : (p : ℕ → Bool) (key : List ℕ) → number_or 0 ≡ least p (numbers (side_terms key 0))
+pub none_yet : (p : ℕ → Bool) (key : List ℕ) → number_or None ≡ least p (numbers (side_terms key 0))
 unfolding number_or least numbers listed
 none_yet p key = refl
 
 pub slot-on :
-    {fs : List Fact} {key label : List ℕ} {m : ℕ} → Decides fs key label m → m ≤ 144 → (i t a best : ℕ) → 16 + i < m →
+    {fs : List Fact} {key label : List ℕ} {m : ℕ} → Decides fs key label m → m ≤ 144 → (i t a : ℕ) (best : Std.Option ℕ) → 16 + i < m →
     Labelled key label m t a →
     number_or best ≡ least (λ v. equal_by (representative fs) (num v) (term_of t)) (numbers (side_terms key i)) →
     number_or (with_slot best (get_or key (16 + i) 0) (get_or label (16 + i) 0) t a)
@@ -171,17 +179,17 @@ slot-on {key = key} {label = label} D low i t a best h w e =
 -- the sides before the first number with the label of t
 module _ {fs : List Fact} {key label : List ℕ} {m : ℕ} (D : Decides fs key label m) (low : m ≤ 144) (t a r : ℕ) (h : 16 + r ≤ m)
     (w : Labelled key label m t a) (before : (i : ℕ) → i < r → number_at_side key label a i ≡ false) where
-  not-like : (i : ℕ) → i < r → with_slot 0 (get_or key (16 + i) 0) (get_or label (16 + i) 0) t a ≡ 0
+  not-like : (i : ℕ) → i < r → with_slot None (get_or key (16 + i) 0) (get_or label (16 + i) 0) t a ≡ None
   unfolding with_slot number_like number_with alike_by
   not-like i g =
       let c : ℕ = get_or label (16 + i) 0 in
       rw (ne_eqb c 255 (λ e. omega (arith, e, D.low (16 + i) (omega arith)))) (go (leb 65793 (get_or key (16 + i) 0)) (eqb c a) (before i g))
     where
-      go : (d e : Bool) → (e && d) ≡ false → cond (d && e) (lower_of (get_or key (16 + i) 0) 0) 0 ≡ 0
+      go : (d e : Bool) → (e && d) ≡ false → cond (d && e) (Some (lower_of (get_or key (16 + i) 0) None)) None ≡ None
       go true true f = absurd (let z : ◌≡◌ {A = ℕ} 0 1 = cc in omega arith)
       go true false f = refl
       go false e f = refl
 
-  pub none_before : (i : ℕ) → i ≤ r → number_or 0 ≡ least (λ v. equal_by (representative fs) (num v) (term_of t)) (numbers (side_terms key i))
+  pub none_before : (i : ℕ) → i ≤ r → number_or None ≡ least (λ v. equal_by (representative fs) (num v) (term_of t)) (numbers (side_terms key i))
   none_before zero g = none_yet _ key
-  none_before (suc i) g = ap number_or (sym (not-like i (omega arith))) ∙ slot-on D low i t a 0 (omega arith) w (none_before i (omega arith))
+  none_before (suc i) g = ap number_or (sym (not-like i (omega arith))) ∙ slot-on D low i t a None (omega arith) w (none_before i (omega arith))

@@ -2,20 +2,18 @@
 use mathlib.Core.Path.{◌≡◌, refl, sym, ap, ◌∙◌}
 use mathlib.Core.Bool.{Bool, true, false}
 use mathlib.Core.List.{List}
-use mathlib.Core.Logic.{◌⊎◌, inl, inr, ⊎_elim}
-use Prim.Native.Nat.{ℕ, ◌+◌, ◌≤◌, ◌<◌}
+use mathlib.Core.Logic.{◌⊎◌, inl, inr}
+use Prim.Native.Nat.{ℕ, ◌≤◌, ◌<◌}
 use native.Mathlib.Omega.{arith}
 use native.Mathlib.Decide.{dec_lt}
-use lib.Dec.{eqb}
-use lib.ListN.{length, get_or}
-use borrow.Author.Tests.{eq-eqb}
+use lib.ListN.{get_or}
 use Rattle.rules.specs.Syntax.{same}
 use Rattle.rules.specs.State.{Fact, representative, equal_by}
 use Rattle.rules.proofs.Closure.{same→≡}
 use Rattle.rules.proofs.Lists.{decide_eq}
-use Rattle.check_equality.specs.Layout.{left_sides, mark_count}
+use Rattle.check_equality.specs.Layout.{left_sides}
 use Rattle.check_equality.specs.Keys.{term_of}
-use Rattle.check_equality.specs.Links.{Labelled, Together, Decides, place_of, Marks}
+use Rattle.check_equality.specs.Links.{Labelled, Together, Decides, place_of}
 use Rattle.check_equality.proofs.Keys.{one_key}
 use Rattle.check_state.specs.Questions.{Slots}
 use Rattle.check_successors.specs.Successors.{MarksLike}
@@ -24,22 +22,6 @@ clash : {A : Type 0} → false ≡ true → A
 clash e = absurd (let z : ◌≡◌ {A = ℕ} 0 1 = cc in omega arith)
 
 -- ONE SIDE MORE
-pub marks-first : (key b : List ℕ) (t a : ℕ) (marks marks' : List Bool) → length marks ≡ mark_count → Marks true t marks marks' → MarksLike key b left_sides t a marks'
-marks-first key b t a marks marks' l M = record { size = M.size ∙ l; own = M.new refl; at = λ i g h. absurd (omega arith) }
-
-pub marks-more :
-    (key b : List ℕ) (i t a : ℕ) (marks marks' : List Bool) → MarksLike key b i t a marks → Marks (eqb (get_or b i 0) a) (get_or key i 0) marks marks' →
-    MarksLike key b (i + 1) t a marks'
-marks-more key b i t a marks marks' L M =
-    record {
-      size = M.size ∙ L.size;
-      own = M.old _ L.own;
-      at = λ j g h e. ⊎_elim (λ d. rw d (M.new (eq-eqb _ _ (rw d at e)))) (λ d. M.old _ (L.at j g (omega arith) e)) (decide_eq j i);
-    }
-
-pub marks-upto : (key b : List ℕ) (i m t a : ℕ) (marks : List Bool) → m ≤ i → MarksLike key b i t a marks → MarksLike key b m t a marks
-marks-upto key b i m t a marks h L = record { size = L.size; own = L.own; at = λ j g l. L.at j g (omega arith) }
-
 -- A PATH WHOSE PLACE IS NOT MARKED
 module _ {fs : List Fact} {key b : List ℕ} {m : ℕ} (S : Slots key b m) (D : Decides fs key b m) (t a : ℕ) (L : Labelled key b m t a) (marks : List Bool)
     (M : MarksLike key b m t a marks) (k : ℕ) (g : 257 ≤ k) (none : get_or marks (place_of k) false ≡ false) where

@@ -1,5 +1,7 @@
 -- The search for a successor: the first term left that is ~ a dropped one.
 use Rattle.std.specs.Prelude.{Bool, true, false, cond, not, ◌&&◌, ◌≡◌, List, map, ℕ, ◌+◌, ◌-◌, ◌≤◌, ◌<◌, eqb, ltb, leb, length, get_or}
+use Rattle.std.specs.Prelude as Std
+use Rattle.std.specs.Prelude.{Some, None, IfSome}
 use Rattle.std.proofs.Math.Option.{Option, none, some}
 use Rattle.rules.specs.Base.{first, bind_option}
 use Rattle.rules.specs.Syntax.{offset, num, null, var, path}
@@ -8,27 +10,32 @@ use Rattle.check_equality.specs.Layout.{left_sides, null_slot, mark_count}
 use Rattle.check_equality.specs.Keys.{term_of, first_number}
 use Rattle.check_equality.specs.Links.{term_at, place_of}
 use Rattle.check_equality.specs.Listing.{listed}
-use Rattle.check_state.specs.declared.Resolved.{Resolved}
 use Rattle.check_state.specs.States.{variable_at, field_at, left_at, path_at_entry, entries, state_of, facts_of}
 use Rattle.check_state.specs.Questions.{places}
 use Rattle.check_inequality.specs.Ways.{number_like}
 
 -- NUMBERS
--- the number of a key, none where it is no number's
-unfoldable pub number_or : ℕ → Option ℕ
-number_or k = cond (ltb k first_number) none (some (k - first_number))
+-- the number of a number's key, or none
+unfoldable pub number_or : Std.Option ℕ → Option ℕ
+number_or (Some k) = some (k - first_number)
+number_or None = none
+
+-- a number's key, or none
+abbrev pub Numbered : Std.Option ℕ → Type 0
+Numbered o = IfSome o (λ k. first_number ≤ k)
 
 -- its place in rising order
 abbrev pub offset_of : ℕ → ℕ
 offset_of k = offset (k - first_number)
 
--- the lower of two numbers' keys, where `best` may be none's
-unfoldable pub lower_of : ℕ → ℕ → ℕ
-lower_of k best = cond (ltb best first_number) k (cond (ltb (offset_of k) (offset_of best)) k best)
+-- the lower of two numbers' keys, where there may be one alone
+unfoldable pub lower_of : ℕ → Std.Option ℕ → ℕ
+lower_of k (Some l) = cond (ltb (offset_of k) (offset_of l)) k l
+lower_of k None = k
 
 -- the lower of what there is and the key k, if it is that of a number ~ the term of t
-unfoldable pub with_slot : ℕ → ℕ → ℕ → ℕ → ℕ → ℕ
-with_slot best k c t a = cond (number_like k c t a) (lower_of k best) best
+unfoldable pub with_slot : Std.Option ℕ → ℕ → ℕ → ℕ → ℕ → Std.Option ℕ
+with_slot best k c t a = cond (number_like k c t a) (Some (lower_of k best)) best
 
 -- the key of a number, whose label is a
 unfoldable pub number_with : ℕ → ℕ → ℕ → Bool
@@ -63,9 +70,9 @@ entry_path_test ◌~◌ b skip t i = path_test ◌~◌ (left_at b skip i) (varia
 
 -- SUCCESSORS
 -- a term by its key, or none
-unfoldable pub term_or : Resolved → Option Term
-term_or (Resolved.Key k) = some (term_of k)
-term_or Resolved.Nothing = none
+unfoldable pub term_or : Std.Option ℕ → Option Term
+term_or (Some k) = some (term_of k)
+term_or None = none
 
 -- what a search may ask of a dropping, with ps the permissions left: x and the entries to be skipped are not left, all else is
 pub record Drops (ρ : Renaming) (ps : List Permission) (b : List ℕ) (skip : List Bool) (x : ℕ) : Type 0 where
@@ -78,6 +85,6 @@ pub record Drops (ρ : Renaming) (ps : List Permission) (b : List ℕ) (skip : L
       ≡ bind_option (first (λ i. left_at b skip i && q (path_at_entry b i)) (places (entries b))) (λ i. some (path_at_entry b i))
 
 -- r is the successor of the term of t, whatever drops that
-abbrev pub IsSuccessor : List ℕ → List ℕ → List Bool → ℕ → ℕ → Resolved → Type 0
+abbrev pub IsSuccessor : List ℕ → List ℕ → List Bool → ℕ → ℕ → Std.Option ℕ → Type 0
 IsSuccessor key b skip x t r =
     (ρ : Renaming) (ps : List Permission) → Drops ρ ps b skip x → term_or r ≡ successor (equal_in (state_of key b)) ρ ps (facts_of key b) (term_of t)

@@ -9,10 +9,9 @@ ghost use Rattle.check_equality.specs.Keys.{first_number};
 ghost use Rattle.check_equality.specs.Links.{Labelled};
 ghost use Rattle.check_state.specs.States.{Wf, facts};
 ghost use Rattle.check_state.specs.Questions.{Slots, Told, FirstPlace};
-ghost use Rattle.check_successors.specs.Successors.{number_or, offset_of, lower_of, with_slot, number_with, number_at_side, MarksLike, path_test, entry_path_test, IsSuccessor, least_number};
+ghost use Rattle.check_successors.specs.Successors.{number_or, Numbered, offset_of, lower_of, with_slot, number_with, number_at_side, MarksLike, path_test, entry_path_test, IsSuccessor, least_number};
 
 use check_equality::State;
-use check_state::Resolved;
 use rules::Machine;
 
 // How many numbers 32 bits hold, and the first that is negative.
@@ -28,26 +27,27 @@ fn order(k: u64) -> u64
     ((k - State::FIRST_NUMBER) % WORDS + SIGN) % WORDS
 }
 
-// The lower of two numbers' keys, where `least` may be 0 for none.
-fn lower(k: u64, least: u64) -> u64
-    requires { first_number ≤ k }
+// The lower of two numbers' keys, where there may be one alone.
+fn lower(k: u64, least: Option<u64>) -> u64
+    requires { (first_number ≤ k) × Numbered least }
     ensures { result ≡ lower_of k least }
 {
-    if least < State::FIRST_NUMBER {
+    let Some(l) = least else {
+        return k;
+    };
+    if order(k) < order(l) {
         return k;
     }
-    if order(k) < order(least) {
-        return k;
-    }
-    least
+    l
 }
 
 // One side more, with the key k and the label c.
-fn number_step(best: u64, k: u64, c: u8, t: u64, a: u8) -> u64
-    ensures { result ≡ with_slot best k c t a }
+fn number_step(best: Option<u64>, k: u64, c: u8, t: u64, a: u8) -> Option<u64>
+    requires { Numbered best }
+    ensures { (result ≡ with_slot best k c t a) × Numbered result }
 {
     if check_inequality::number_like(k, c, t, a) {
-        return lower(k, best);
+        return Some(lower(k, best));
     }
     best
 }
@@ -72,17 +72,15 @@ fn first_number<'a>(
     requires { left_sides + n ≤ slots }
     ensures { FirstPlace (number_at_side key.now b.now a) n result }
 {
-    let mut i = 0;
-    while i < n {
+    for i in 0..n {
         if number_at(key[State::LEFT + i], b[State::LEFT + i], a) {
             return i;
         }
-        i += 1;
     }
     n
 }
 
-// The key of the least number that is ~ the term of t among the first n sides; 0 where there is none.
+// The key of the least number that is ~ the term of t among the first n sides.
 fn least_number<'a>(
     key: &'a [u64; State::SLOTS],
     b: &'a [u8; State::BYTES],
@@ -90,15 +88,13 @@ fn least_number<'a>(
     n: usize,
     t: u64,
     a: u8,
-) -> u64
+) -> Option<u64>
     requires { Slots key.now b.now m × Labelled key.now b.now m t a × (left_sides + n ≤ m) }
-    ensures { Told key.now b.now m (λ same. number_or result ≡ least_number same key.now n t) }
+    ensures { Numbered result × Told key.now b.now m (λ same. number_or result ≡ least_number same key.now n t) }
 {
-    let mut best = 0;
-    let mut i = first_number(key, b, n, a);
-    while i < n {
+    let mut best = None;
+    for i in first_number(key, b, n, a)..n {
         best = number_step(best, key[State::LEFT + i], b[State::LEFT + i], t, a);
-        i += 1;
     }
     best
 }
@@ -116,10 +112,8 @@ fn marks_like<'a>(
     ensures { MarksLike key.now b.now m t a marks.new }
 {
     check_equality::mark(marks, true, t);
-    let mut i = State::LEFT;
-    while i < m {
+    for i in State::LEFT..m {
         check_equality::mark(marks, b[i] == a, key[i]);
-        i += 1;
     }
 }
 
@@ -165,8 +159,7 @@ fn first_entry<'a>(
 {
     let mut marks = [false; State::MARKS];
     marks_like(key, b, m, t, a, &mut marks);
-    let mut i = 0;
-    while i < n {
+    for i in 0..n {
         if path_like(
             key,
             b,
@@ -180,7 +173,6 @@ fn first_entry<'a>(
         ) {
             return i;
         }
-        i += 1;
     }
     n
 }
@@ -194,7 +186,7 @@ pub fn successor<'a>(
     x: u8,
     t: u64,
     a: u8,
-) -> Resolved
+) -> Option<u64>
     requires { Wf key.now b.now × Labelled key.now b.now (left_sides + 2 * facts b.now) t a }
     ensures { IsSuccessor key.now b.now skip.now x t result }
 {
@@ -202,22 +194,15 @@ pub fn successor<'a>(
     let m = State::LEFT + n;
     let v = check_state::first_variable(key, b, m, x, t, a);
     if v < State::VARIABLE_COUNT {
-        return Resolved::Key(check_equality::variable_key(v));
+        return Some(check_equality::variable_key(v));
     }
     let p = b[State::ENTRIES] as usize;
     let i = first_entry(key, b, m, skip, p, t, a);
     if i < p {
-        return Resolved::Key(check_equality::path_key(
-            b[State::VARIABLES + i],
-            b[State::FIELDS + i],
-        ));
+        return Some(check_equality::path_key(b[State::VARIABLES + i], b[State::FIELDS + i]));
     }
     if check_equality::alike(State::NULL_KEY, b[State::NULL], t, a) {
-        return Resolved::Key(State::NULL_KEY);
+        return Some(State::NULL_KEY);
     }
-    let k = least_number(key, b, m, n, t, a);
-    if k < State::FIRST_NUMBER {
-        return Resolved::Nothing;
-    }
-    Resolved::Key(k)
+    least_number(key, b, m, n, t, a)
 }

@@ -8,6 +8,7 @@ use Prim.Native.Nat.{ℕ, suc, ◌+◌, ◌≤◌, ◌<◌}
 use native.Mathlib.Omega.{arith}
 use lib.Dec.{T, leb, leb→le}
 use lib.ListN.{drop}
+use Rattle.std.proofs.Common.{Ok, Err}
 use Rattle.rules.specs.Base.{Try, ok, no, ◌>>=◌}
 use Rattle.rules.specs.Grammar.{IsStatementNumber}
 use Rattle.rules.specs.Answers as Answers
@@ -20,9 +21,8 @@ use Rattle.tables.specs.Decode.{operands_at, kind_at, line_at, stmt_at, row_at, 
 use Rattle.tables.specs.Tables.{nested, nested_row}
 use Rattle.tables.proofs.Rows.{row_cons}
 use Rattle.tables.proofs.Statements.{if-means, loop-means, no-branch, not_end}
-use Rattle.check_entailment.specs.declared.Answer.{Answer}
 use Rattle.check_state.specs.States.{state_of}
-use Rattle.check_entailment.specs.Answers.{answered, Adds}
+use Rattle.check_entailment.specs.Answers.{Answer, answered, Adds}
 use Rattle.check_statements.specs.Statements.{Parts, Says}
 use Rattle.check_rows.specs.Rows.{Stepped}
 use Rattle.checker.specs.Checked.{outcome, Nests, verdict_from}
@@ -31,12 +31,8 @@ use Rattle.checker.specs.Checked.{outcome, Nests, verdict_from}
 line-answered :
     {A : Type 0} (l : ℕ) (a : Answer) (x : A) (k : A → Answers.Verdict (Unit {0})) → at_line l (answered a x) k ≡ outcome a l (k x)
 unfolding at_line answered outcome
-line-answered l Answer.Done x k = refl
-line-answered l Answer.Unresolved x k = refl
-line-answered l Answer.NoPermission x k = refl
-line-answered l Answer.NotShown x k = refl
-line-answered l Answer.Full x k = refl
-line-answered l Answer.Malformed x k = refl
+line-answered l (Ok u) x k = refl
+line-answered l (Err e) x k = refl
 
 pub at-line :
     {A : Type 0} (l : ℕ) (t : Try Refusal A) (a : Answer) (x : A) → answered a x ≡ t → (k : A → Answers.Verdict (Unit {0})) →

@@ -1,10 +1,10 @@
 -- What the checker of a block and of a program answers.
-use Rattle.std.specs.Prelude.{◌≡◌, Bool, true, false, List, [], ◌∷◌, ℕ, suc, ◌+◌, ◌-◌, ◌≤◌, ◌<◌, T, drop}
+use Rattle.std.specs.Prelude.{◌≡◌, Bool, true, false, List, [], ◌∷◌, ℕ, suc, ◌+◌, ◌-◌, ◌≤◌, ◌<◌, T, drop, Result, Ok, Err, IfOk, IfErr}
 use Rattle.std.proofs.Math.Option.{some}
 use Rattle.rules.specs.Limits.{most_branches}
 use Rattle.rules.specs.Grammar.{is_closing_number}
 use Rattle.rules.specs.Answers as Answers
-use Rattle.rules.specs.Answers.{Refusal, accepted, refused, unresolved, no_permission, not_shown, state_full, malformed}
+use Rattle.rules.specs.Answers.{accepted, refused}
 use Rattle.rules.specs.Base.{ok, ◌>>=◌}
 use Rattle.rules.specs.Syntax.{Formula}
 use Rattle.rules.specs.State as Rules
@@ -12,35 +12,32 @@ use Rattle.rules.specs.Rules.{End, Open, in_first, in_second, in_loop, show_end,
 use Rattle.tables.specs.Decode.{kind_at, line_at, formula_at, atoms_from, row_count, all_rows, program_in}
 use Rattle.tables.specs.Layout.{most_atom_rows}
 use Rattle.tables.specs.Tables.{nested, Tables}
-use Rattle.check_entailment.specs.declared.Answer.{Answer}
+use Rattle.check_entailment.specs.Answers.{Answer, refusal_of}
 use Rattle.check_state.specs.States.{Wf, state_of}
 use Rattle.check_statements.specs.Statements.{end_of}
 use Rattle.check_rows.specs.Rows.{loop_leaves}
-use Rattle.checker.specs.declared.Out.{Out}
-use Rattle.checker.specs.declared.Verdict.{Verdict}
-
--- the row of document 01's table that an answer is; Done is none
-unfoldable pub refusal_of : Answer → Refusal
-refusal_of Answer.Done = malformed
-refusal_of Answer.Unresolved = unresolved
-refusal_of Answer.NoPermission = no_permission
-refusal_of Answer.NotShown = not_shown
-refusal_of Answer.Full = state_full
-refusal_of Answer.Malformed = malformed
+use Rattle.checker.specs.declared.Reached.{Reached}
+use Rattle.checker.specs.declared.RefusedRow.{RefusedRow}
+use Rattle.checker.specs.declared.RefusedLine.{RefusedLine}
 
 -- accepted, or the number and the line
-unfoldable pub verdict_of : Verdict → Answers.Verdict (Unit {0})
-verdict_of Verdict.Accepted = accepted tt
-verdict_of (Verdict.Refused k l) = refused (refusal_of k) l
+unfoldable pub verdict_of : Result (Unit {0}) RefusedLine → Answers.Verdict (Unit {0})
+verdict_of (Ok u) = accepted tt
+verdict_of (Err e) = refused (refusal_of e.why) e.line
 
 -- what follows, or the refusal at a line
 unfoldable pub outcome : Answer → ℕ → Answers.Verdict (Unit {0}) → Answers.Verdict (Unit {0})
-outcome Answer.Done l v = v
-outcome Answer.Unresolved l v = refused unresolved l
-outcome Answer.NoPermission l v = refused no_permission l
-outcome Answer.NotShown l v = refused not_shown l
-outcome Answer.Full l v = refused state_full l
-outcome Answer.Malformed l v = refused malformed l
+outcome (Ok u) l v = v
+outcome (Err e) l v = refused (refusal_of e) l
+
+-- an answer to the line l
+abbrev pub on_line : Answer → ℕ → Result (Unit {0}) RefusedLine
+on_line (Ok u) l = Ok tt
+on_line (Err e) l = Err (record { why = e; line = l })
+
+-- a refused row by its line
+abbrev pub line_of : List ℕ → RefusedRow → RefusedLine
+line_of w r = record { why = r.why; line = line_at w r.row }
 
 -- ROWS
 
@@ -64,81 +61,82 @@ verdict_from w i e φ os = check_rows (program_in w) φ (drop i (all_rows w)) e 
 abbrev pub block_verdict : List ℕ → ℕ → ℕ → ℕ → Rules.State → Answers.Verdict (Unit {0})
 block_verdict w i a n s = verdict_from w i (some s) (atoms_from w a n) []
 
-abbrev pub stopped_at : Answer → ℕ → Out
-stopped_at k i = record { answer = k; at = i; returned = false }
+-- an answer to row i, where x is reached if it is done
+abbrev pub at_row : {A : Type 0} → Answer → ℕ → A → Result A RefusedRow
+at_row (Ok u) i x = Ok x
+at_row (Err e) i x = Err (record { why = e; row = i })
 
--- the row after i, where that is done
-unfoldable pub onward : Answer → ℕ → ℕ
-onward Answer.Done i = i + 1
-onward Answer.Unresolved i = i
-onward Answer.NoPermission i = i
-onward Answer.NotShown i = i
-onward Answer.Full i = i
-onward Answer.Malformed i = i
+-- the row after i is reached, where that is done
+abbrev pub passed_at : Answer → ℕ → Result Reached RefusedRow
+passed_at k i = at_row k i (record { at = i + 1; returned = false })
 
-abbrev pub passed_at : Answer → ℕ → Out
-passed_at k i = stopped_at k (onward k i)
+-- the row that is reached or refused
+abbrev pub row_of : Result Reached RefusedRow → ℕ
+row_of (Ok r) = r.at
+row_of (Err e) = e.row
+
+-- what follows from there, or the refusal at a row's line
+unfoldable pub from_there : {A : Type 0} → List ℕ → Result A RefusedRow → (A → Answers.Verdict (Unit {0})) → Answers.Verdict (Unit {0})
+from_there w (Ok r) f = f r
+from_there w (Err e) f = refused (refusal_of e.why) (line_at w e.row)
 
 -- rows from i on, up to another, where the arrays then hold the state, or to the one after a `return`: what they give, whatever is open
 -- around them
-pub record Went (w : List ℕ) (depth i : ℕ) (φ : Formula ℕ) (s : Rules.State) (r : Out) (key b : List ℕ) : Type 0 where
+pub record Went (w : List ℕ) (depth i : ℕ) (φ : Formula ℕ) (s : Rules.State) (r : Result Reached RefusedRow) (key b : List ℕ) : Type 0 where
   pub wf : Wf key b
-  pub on : i ≤ r.at
-  pub within : r.at < row_count w
-  pub nests : r.answer ≡ Answer.Done → Nests w r.at (most_branches - depth)
+  pub on : i ≤ row_of r
+  pub within : row_of r < row_count w
+  pub nests : IfOk r (λ x. Nests w x.at (most_branches - depth))
   pub same :
       (os : List Open) →
-      verdict_from w i (some s) φ os
-      ≡ outcome r.answer (line_at w r.at) (verdict_from w r.at (end_of r.returned (state_of key b)) φ os)
+      verdict_from w i (some s) φ os ≡ from_there w r (λ x. verdict_from w x.at (end_of x.returned (state_of key b)) φ os)
 
 -- a block's rows from i on: all up to one that closes it
-pub record Ran (w : List ℕ) (depth i : ℕ) (φ : Formula ℕ) (s : Rules.State) (r : Out) (key b : List ℕ) : Type 0 where
+pub record Ran (w : List ℕ) (depth i : ℕ) (φ : Formula ℕ) (s : Rules.State) (r : Result Reached RefusedRow) (key b : List ℕ) : Type 0 where
   pub went : Went w depth i φ s r key b
-  pub closes : r.answer ≡ Answer.Done → r.returned ≡ false → is_closing_number (kind_at w r.at) ≡ true
+  pub closes : IfOk r (λ x. x.returned ≡ false → is_closing_number (kind_at w x.at) ≡ true)
 
 -- row i, with all up to the `join` or `again` of a branch or loop that it opens
-pub record Passed (w : List ℕ) (depth i : ℕ) (φ : Formula ℕ) (s : Rules.State) (r : Out) (key b : List ℕ) : Type 0 where
+pub record Passed (w : List ℕ) (depth i : ℕ) (φ : Formula ℕ) (s : Rules.State) (r : Result Reached RefusedRow) (key b : List ℕ) : Type 0 where
   pub went : Went w depth i φ s r key b
-  pub further : r.answer ≡ Answer.Done → i < r.at
+  pub further : IfOk r (λ x. i < x.at)
 
 -- a `return` at row i, however deep
-abbrev pub Returns : List ℕ → ℕ → Formula ℕ → Rules.State → Out → List ℕ → List ℕ → Type 0
+abbrev pub Returns : List ℕ → ℕ → Formula ℕ → Rules.State → Result Reached RefusedRow → List ℕ → List ℕ → Type 0
 Returns w i φ s r key b = (depth : ℕ) → Nests w i (most_branches - depth) → Passed w depth i φ s r key b
 
 -- THE PARTS OF A BRANCH, AND A LOOP'S BODY
-pub record Ended (w : List ℕ) (r : Out) : Type 0 where
+pub record Ended (w : List ℕ) (r : Reached) : Type 0 where
   pub within : r.at < row_count w
-  pub closes : r.answer ≡ Answer.Done → r.returned ≡ false → is_closing_number (kind_at w r.at) ≡ true
+  pub closes : r.returned ≡ false → is_closing_number (kind_at w r.at) ≡ true
 
 -- the first part ends, with any state s or after a `return`, at its `else`
-pub record Turned (w : List ℕ) (one r : Out) : Type 0 where
-  pub place : r.at ≡ one.at
-  pub was : r.answer ≡ Answer.Done → one.answer ≡ Answer.Done
-  pub next : r.answer ≡ Answer.Done → r.at + 1 < row_count w
-  pub nests : r.answer ≡ Answer.Done → (d : ℕ) → Nests w one.at d → Nests w (r.at + 1) d
+pub record Turned (w : List ℕ) (one : Reached) (r : Result (Unit {0}) RefusedRow) : Type 0 where
+  pub place : IfErr r (λ e. e.row ≡ one.at)
+  pub next : IfOk r (λ u. one.at + 1 < row_count w)
+  pub nests : IfOk r (λ u. (d : ℕ) → Nests w one.at d → Nests w (one.at + 1) d)
   pub same :
       (s s₂ : Rules.State) (φ : Formula ℕ) (os : List Open) →
-      outcome one.answer (line_at w one.at) (verdict_from w one.at (end_of one.returned s) φ (in_first s₂ ∷ os))
-      ≡ outcome r.answer (line_at w r.at) (verdict_from w (r.at + 1) (some s₂) φ (in_second (end_of r.returned s) ∷ os))
+      verdict_from w one.at (end_of one.returned s) φ (in_first s₂ ∷ os)
+      ≡ from_there w r (λ u. verdict_from w (one.at + 1) (some s₂) φ (in_second (end_of one.returned s) ∷ os))
 
 -- the second part, or a loop's body, ends with the state t or after a `return`, at the row that closes what is open
-pub record Closed (w : List ℕ) (end : Out) (t : Rules.State) (o : Open) (r : Out) (key b : List ℕ) : Type 0 where
+pub record Closed (w : List ℕ) (end : Reached) (t : Rules.State) (o : Open) (r : Result Reached RefusedRow) (key b : List ℕ) : Type 0 where
   pub wf : Wf key b
-  pub on : end.at ≤ r.at
-  pub within : r.at < row_count w
-  pub was : r.answer ≡ Answer.Done → end.answer ≡ Answer.Done
-  pub nests : r.answer ≡ Answer.Done → (d : ℕ) → Nests w end.at (suc d) → Nests w r.at d
+  pub on : end.at ≤ row_of r
+  pub within : row_of r < row_count w
+  pub nests : IfOk r (λ x. (d : ℕ) → Nests w end.at (suc d) → Nests w x.at d)
   pub same :
       (φ : Formula ℕ) (os : List Open) →
-      outcome end.answer (line_at w end.at) (verdict_from w end.at (end_of end.returned t) φ (o ∷ os))
-      ≡ outcome r.answer (line_at w r.at) (verdict_from w r.at (end_of r.returned (state_of key b)) φ os)
+      verdict_from w end.at (end_of end.returned t) φ (o ∷ os)
+      ≡ from_there w r (λ x. verdict_from w x.at (end_of x.returned (state_of key b)) φ os)
 
 -- the second part of a branch, whose end is in key₂ and b₂; its first part ended with the state in key₁ and b₁ or after a `return`
-abbrev pub BranchClosed : List ℕ → Out → List ℕ → List ℕ → Bool → List ℕ → List ℕ → Out → List ℕ → List ℕ → Type 0
+abbrev pub BranchClosed : List ℕ → Reached → List ℕ → List ℕ → Bool → List ℕ → List ℕ → Result Reached RefusedRow → List ℕ → List ℕ → Type 0
 BranchClosed w two key₂ b₂ returned key₁ b₁ r key b = Closed w two (state_of key₂ b₂) (in_second (end_of returned (state_of key₁ b₁))) r key b
 
 -- the body of the loop at row i, where the state after the loop is the same whatever shows the invariant
-abbrev pub BodyClosed : List ℕ → ℕ → Out → Rules.State → Out → List ℕ → List ℕ → Type 0
+abbrev pub BodyClosed : List ℕ → ℕ → Reached → Rules.State → Result Reached RefusedRow → List ℕ → List ℕ → Type 0
 BodyClosed w i end t r key b =
     (after : Rules.State) → ((e : End) → loop_leaves w i e ≡ (show_end (formula_at w i) e >>= λ u. ok after)) →
     Closed w end t (in_loop (formula_at w i) after) r key b

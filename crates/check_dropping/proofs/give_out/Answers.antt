@@ -1,6 +1,6 @@
 use native.Mathlib.Omega.{arith}
 use Rattle.check_scans.proofs.Scanning.{scanned-dropped, dropped-untouched, scanned-less, unmarked-kept}
-use Rattle.check_dropping.proofs.Ways.{flags-dropping, flags-forgot}
+use Rattle.check_dropping.proofs.Ways.{flags-dropping}
 use Rattle.check_dropping.proofs.give_out.Goals as goal
 
 pub drop_paths-requires : goal.drop_paths-requires
@@ -10,6 +10,3 @@ drop_paths-requires c =
 pub forget-requires : goal.forget-requires
 forget-requires c =
     (c.requires.0, c.drop_paths.ensures.size, flags-dropping _ _ _ _ _ _ c.requires.2 c.drop_paths.ensures, dropped-untouched _ _ _ _ (scanned-less _ _ _ _ _ (λ k e. unmarked-kept _ _ _ k c.requires.1 e) c.requires.3) _ c.drop_paths.ensures)
-
-pub returns : goal.returns
-returns c = flags-forgot _ _ _ _ _ _ _ _ c.drop_paths.ensures c.forget.ensures

@@ -7,9 +7,6 @@ unfolding permit_of
 returns-then-k-eq-READ c =
     rw c.if-k-eq-READ.true (own-atom c.args.key.now c.args.b.now _ _ _ _ _ c.add_read.ensures)
 
-pub add_permission-requires : goal.add_permission-requires
-add_permission-requires c = (c.requires.0.fit, c.requires.0.linked.size, c.requires.1)
-
 pub returns : goal.returns
 returns c =
     own-atom c.args.key.now c.args.b.now _ _ _ _ _

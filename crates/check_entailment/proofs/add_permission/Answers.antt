@@ -1,10 +1,5 @@
 use Rattle.check_entailment.proofs.Adding.{full-permissions, one-permission}
-use native.Mathlib.Omega.{arith}
 use Rattle.check_entailment.proofs.add_permission.Goals as goal
-
-pub overflow_cast-n : goal.overflow_cast-n
-overflow_cast-n c =
-    omega (arith, c.requires.0)
 
 pub returns-then-n-ge-PERMISSIONS : goal.returns-then-n-ge-PERMISSIONS
 returns-then-n-ge-PERMISSIONS c =

@@ -1,12 +1,6 @@
 use Rattle.check_entailment.proofs.Showing.{access-shown}
 use Rattle.check_entailment.proofs.show_access.Goals as goal
 
-pub variable_key-requires : goal.variable_key-requires
-variable_key-requires c = tt
-
-pub take-requires : goal.take-requires
-take-requires c = c.requires
-
 pub returns : goal.returns
 returns c =
     (c.take.ensures.0, access-shown c.args.key.now c.args.b.now c.args.left.now c.args.want _ c.args.y c.args.f _ c.take.new.left c.variable_key.ensures.0 c.take.ensures.1)

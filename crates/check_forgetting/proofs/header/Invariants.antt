@@ -1,4 +1,4 @@
-use Prim.Native.Nat.{ℕ, ◌-◌, ◌≤◌, ◌<◌}
+use Prim.Native.Nat.{ℕ, ◌<◌}
 use lib.ListN.{length, get_or}
 use mathlib.Core.Path.{◌≡◌}
 use Rattle.check_equality.specs.Layout.{slots}
@@ -6,7 +6,4 @@ use Rattle.check_forgetting.proofs.header.Given as goal
 
 abbrev pub invariant-loop-i : goal.invariant-loop-i
 invariant-loop-i l =
-    (l.i ≤ 15) × (length l.key ≡ slots) × ((j : ℕ) → j < l.i → get_or l.key j 0 ≡ j)
-
-abbrev pub decreases-loop-i : goal.decreases-loop-i
-decreases-loop-i l = 15 - l.i
+    (length l.key ≡ slots) × ((j : ℕ) → j < l.i → get_or l.key j 0 ≡ j)

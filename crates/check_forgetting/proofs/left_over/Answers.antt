@@ -4,9 +4,6 @@ use mathlib.Core.Path.{sym, ◌∙◌}
 use native.Mathlib.Omega.{arith}
 use Rattle.check_forgetting.proofs.left_over.Goals as goal
 
-pub returns-then-mentions : goal.returns-then-mentions
-returns-then-mentions c = c.gives_way.ensures (sym c.mentions.ensures ∙ c.if-mentions.true)
-
 pub returns : goal.returns
 unfolding term_or
 returns c = left-term _ _ _ (omega arith) c.requires _ (sym c.mentions.ensures ∙ c.if-mentions.false)

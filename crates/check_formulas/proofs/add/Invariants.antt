@@ -1,4 +1,4 @@
-use Prim.Native.Nat.{◌+◌, ◌-◌, ◌≤◌}
+use Prim.Native.Nat.{◌+◌, ◌-◌}
 use Rattle.check_formulas.specs.Formulas.{formula}
 use Rattle.check_state.specs.States.{state_of, Wf}
 use mathlib.Core.Path.{◌≡◌}
@@ -7,7 +7,4 @@ use Rattle.check_formulas.proofs.add.Given as goal
 
 abbrev pub invariant-loop-i : goal.invariant-loop-i
 invariant-loop-i l =
-    (l.i ≤ l.n) × Wf l.key l.b × (Rules.add (formula l.w l.y l.z l.x l.a l.n) (state_of l.initial.key l.initial.b) ≡ Rules.add (formula l.w l.y l.z l.x (l.a + l.i) (l.n - l.i)) (state_of l.key l.b))
-
-abbrev pub decreases-loop-i : goal.decreases-loop-i
-decreases-loop-i l = l.n - l.i
+    Wf l.key l.b × (Rules.add (formula l.w l.y l.z l.x l.a l.n) (state_of l.initial.key l.initial.b) ≡ Rules.add (formula l.w l.y l.z l.x (l.a + l.i) (l.n - l.i)) (state_of l.key l.b))

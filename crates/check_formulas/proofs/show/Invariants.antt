@@ -1,11 +1,8 @@
-use Prim.Native.Nat.{◌+◌, ◌-◌, ◌≤◌}
+use Prim.Native.Nat.{◌+◌, ◌-◌}
 use Rattle.check_formulas.specs.Formulas.{formula, Showing}
 use Rattle.check_entries.specs.Entries.{LeftFits}
 use Rattle.check_formulas.proofs.show.Given as goal
 
 abbrev pub invariant-loop-i : goal.invariant-loop-i
 invariant-loop-i l =
-    (l.i ≤ l.n) × LeftFits l.b l.left × Showing l.key l.b (formula l.w l.y l.z l.x l.a l.n) (formula l.w l.y l.z l.x (l.a + l.i) (l.n - l.i)) l.left
-
-abbrev pub decreases-loop-i : goal.decreases-loop-i
-decreases-loop-i l = l.n - l.i
+    LeftFits l.b l.left × Showing l.key l.b (formula l.w l.y l.z l.x l.a l.n) (formula l.w l.y l.z l.x (l.a + l.i) (l.n - l.i)) l.left

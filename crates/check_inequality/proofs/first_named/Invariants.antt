@@ -1,4 +1,4 @@
-use Prim.Native.Nat.{ℕ, ◌-◌, ◌≤◌, ◌<◌}
+use Prim.Native.Nat.{ℕ, ◌<◌}
 use Rattle.check_state.specs.Questions.{Told}
 use Rattle.check_inequality.specs.Ways.{named_at}
 use mathlib.Core.Bool.{false}
@@ -6,7 +6,4 @@ use mathlib.Core.Path.{◌≡◌}
 use Rattle.check_inequality.proofs.first_named.Given as goal
 
 abbrev pub invariant-loop-i : goal.invariant-loop-i
-invariant-loop-i l = (l.i ≤ l.n) × Told l.key l.b l.m (λ same. (j : ℕ) → j < l.i → named_at l.b l.k same j ≡ false)
-
-abbrev pub decreases-loop-i : goal.decreases-loop-i
-decreases-loop-i l = l.n - l.i
+invariant-loop-i l = Told l.key l.b l.m (λ same. (j : ℕ) → j < l.i → named_at l.b l.k same j ≡ false)

@@ -13,12 +13,6 @@ and-false : (a : Bool) → false ≡ (a && false)
 and-false true = refl
 and-false false = refl
 
-pub variable_is-requires : goal.variable_is-requires
-variable_is-requires c = c.requires
-
 pub returns-then-variable_is : goal.returns-then-variable_is
 returns-then-variable_is c =
     λ fs D. rw (sym (c.variable_is.ensures fs D) ∙ c.if-variable_is.true) (sym (path-kind c.args.c) ∙ and-true (is_path (permit_of c.args.c)))
-
-pub returns : goal.returns
-returns c = λ fs D. rw (sym (c.variable_is.ensures fs D) ∙ c.if-variable_is.false) (and-false (is_path (permit_of c.args.c)))

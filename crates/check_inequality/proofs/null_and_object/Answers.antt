@@ -3,10 +3,6 @@ use Rattle.rules.specs.State.{null_and_object}
 use mathlib.Core.Path.{sym, ◌∙◌}
 use Rattle.check_inequality.proofs.null_and_object.Goals as goal
 
-pub some_object-requires : goal.some_object-requires
-some_object-requires c =
-    (c.requires.0, c.requires.2, c.requires.3)
-
 pub returns-then-alike : goal.returns-then-alike
 unfolding null_and_object
 returns-then-alike c =

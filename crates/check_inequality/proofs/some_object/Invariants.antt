@@ -1,16 +1,12 @@
-use Prim.Native.Nat.{◌-◌, ◌≤◌}
 use Rattle.check_state.specs.Questions.{Told}
 use Rattle.check_state.specs.States.{permissions_in}
 use Rattle.check_equality.specs.Keys.{term_of}
 use Rattle.rules.specs.Base.{any}
-use Rattle.rules.specs.Syntax.{var, same, is_path}
+use Rattle.rules.specs.Syntax.{var, is_path}
 use mathlib.Core.Bool.{false, ◌&&◌}
 use mathlib.Core.Path.{◌≡◌}
 use Rattle.check_inequality.proofs.some_object.Given as goal
 
 abbrev pub invariant-loop-i : goal.invariant-loop-i
 invariant-loop-i l =
-    (l.i ≤ l.n) × Told l.key l.b l.m (λ same. any (λ p. is_path p.permit && same (var p.variable) (term_of l.k)) (permissions_in l.b l.i) ≡ false)
-
-abbrev pub decreases-loop-i : goal.decreases-loop-i
-decreases-loop-i l = l.n - l.i
+    Told l.key l.b l.m (λ same. any (λ p. is_path p.permit && same (var p.variable) (term_of l.k)) (permissions_in l.b l.i) ≡ false)

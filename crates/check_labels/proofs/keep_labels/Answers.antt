@@ -6,9 +6,6 @@ use Rattle.check_labels.specs.Labels.{LabelsBelow, Relabelled, LabelsFit, with_l
 use Rattle.check_labels.proofs.Relabelling.{label-size, relabelled-first, labels-first, fits_kept}
 use Rattle.check_labels.proofs.keep_labels.Goals as goal
 
-pub set_label-requires-then-fits : goal.set_label-requires-then-fits
-set_label-requires-then-fits c = rw c.set_label.ensures (label-size c.args.b.now c.args.x c.requires.0 c.requires.3.size 0)
-
 pub returns-then-fits : goal.returns-then-fits
 returns-then-fits c =
     let b : List ℕ = c.args.b.now in

@@ -1,9 +1,5 @@
-use Prim.Native.Nat.{◌-◌, ◌≤◌}
 use Rattle.check_labels.proofs.Repacking.{Packing}
 use Rattle.check_labels.proofs.repack.Given as goal
 
 abbrev pub invariant-loop-i : goal.invariant-loop-i
-invariant-loop-i l = (l.from ≤ l.i) × (l.i ≤ l.all) × Packing l.initial.key l.initial.b l.gone l.i l.n l.key l.b
-
-abbrev pub decreases-loop-i : goal.decreases-loop-i
-decreases-loop-i l = l.all - l.i
+invariant-loop-i l = Packing l.initial.key l.initial.b l.gone l.i l.n l.key l.b

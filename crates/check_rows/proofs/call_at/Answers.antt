@@ -8,30 +8,6 @@ use Rattle.rules.specs.State as Rules
 use Rattle.rules.specs.Grammar.{statement_number}
 use Rattle.check_rows.proofs.call_at.Goals as goal
 
-pub x_at-x-requires : goal.x_at-x-requires
-x_at-x-requires c = (c.requires.0.size, omega (arith, c.requires.0.rows, c.requires.1))
-
-pub overflow_cast-x : goal.overflow_cast-x
-overflow_cast-x c = record { fits = c.x_at-x.ensures.1 }
-
-pub y_at-y-requires : goal.y_at-y-requires
-y_at-y-requires c =
-    (c.requires.0.size, omega (arith, c.requires.0.rows, c.requires.1))
-
-pub overflow_cast-y : goal.overflow_cast-y
-overflow_cast-y c = record { fits = c.y_at-y.ensures.1 }
-
-pub z_at-z-requires : goal.z_at-z-requires
-z_at-z-requires c =
-    (c.requires.0.size, omega (arith, c.requires.0.rows, c.requires.1))
-
-pub overflow_cast-z : goal.overflow_cast-z
-overflow_cast-z c = record { fits = c.z_at-z.ensures.1 }
-
-pub member_at-requires : goal.member_at-requires
-member_at-requires c =
-    (c.requires.0.size, omega (arith, c.requires.0.rows, c.requires.1))
-
 pub call_rule-requires : goal.call_rule-requires
 unfolding statement_number
 call_rule-requires c =

@@ -10,9 +10,6 @@ use Rattle.rules.specs.State as Rules
 use Rattle.rules.specs.Grammar.{statement_number}
 use Rattle.check_rows.proofs.if_at.Goals as goal
 
-pub first_atom_at-a-requires : goal.first_atom_at-a-requires
-first_atom_at-a-requires c = (c.requires.0.size, omega (arith, c.requires.0.rows, c.requires.1))
-
 pub atom_kind-apart-requires : goal.atom_kind-apart-requires
 unfolding statement_number
 atom_kind-apart-requires c =
@@ -27,10 +24,6 @@ pub right-r-requires : goal.right-r-requires
 unfolding statement_number
 right-r-requires c =
     (c.requires.0.size, omega (arith, (c.requires.0.row_fits c.args.i c.requires.1).operands.atoms.1, (c.requires.0.row_fits c.args.i c.requires.1).operands.one_atom (inr c.requires.2), c.requires.0.atoms, c.first_atom_at-a.ensures.0))
-
-pub if_rule-requires : goal.if_rule-requires
-if_rule-requires c =
-    (c.requires.3, c.requires.4, c.requires.5)
 
 pub returns : goal.returns
 returns c =

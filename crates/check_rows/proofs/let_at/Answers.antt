@@ -10,23 +10,10 @@ use Rattle.rules.specs.Rules.{rule}
 use Rattle.rules.specs.Grammar.{statement_number}
 use Rattle.check_rows.proofs.let_at.Goals as goal
 
-pub x_at-x-requires : goal.x_at-x-requires
-x_at-x-requires c = (c.requires.0.size, omega (arith, c.requires.0.rows, c.requires.1))
-
-pub overflow_cast-x : goal.overflow_cast-x
-overflow_cast-x c = record { fits = c.x_at-x.ensures.1 }
-
-pub first_atom_at-a-requires : goal.first_atom_at-a-requires
-first_atom_at-a-requires c =
-    (c.requires.0.size, omega (arith, c.requires.0.rows, c.requires.1))
-
 pub right-requires : goal.right-requires
 unfolding statement_number
 right-requires c =
     (c.requires.0.size, omega (arith, (c.requires.0.row_fits c.args.i c.requires.1).operands.atoms.1, (c.requires.0.row_fits c.args.i c.requires.1).operands.one_atom (inl c.requires.2), c.requires.0.atoms, c.first_atom_at-a.ensures.0))
-
-pub assign_rule-requires : goal.assign_rule-requires
-assign_rule-requires c = c.requires.3
 
 pub returns : goal.returns
 unfolding rule

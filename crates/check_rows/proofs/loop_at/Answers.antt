@@ -8,20 +8,9 @@ use Rattle.rules.specs.State as Rules
 use Rattle.check_entailment.specs.Answers.{Adds}
 use Rattle.check_rows.proofs.loop_at.Goals as goal
 
-pub first_atom_at-a-requires : goal.first_atom_at-a-requires
-first_atom_at-a-requires c = (c.requires.0.size, omega (arith, c.requires.0.rows, c.requires.1))
-
-pub atom_count_at-n-requires : goal.atom_count_at-n-requires
-atom_count_at-n-requires c = (c.requires.0.size, omega (arith, c.requires.0.rows, c.requires.1))
-
 pub overflow_sub-a : goal.overflow_sub-a
 overflow_sub-a c =
     let l = loop-atoms _ c.requires.0 _ c.requires.1 c.requires.2 in omega (arith, l, c.first_atom_at-a.ensures.0)
-
-pub atom_kind-apart-requires : goal.atom_kind-apart-requires
-atom_kind-apart-requires c =
-    let l = loop-atoms _ c.requires.0 _ c.requires.1 c.requires.2 in
-    (c.requires.0.size, omega (arith, l, c.first_atom_at-a.ensures.0))
 
 pub loop_rule-requires : goal.loop_rule-requires
 loop_rule-requires c =

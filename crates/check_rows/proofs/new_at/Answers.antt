@@ -8,16 +8,6 @@ use Rattle.rules.specs.State as Rules
 use Rattle.rules.specs.Grammar.{statement_number}
 use Rattle.check_rows.proofs.new_at.Goals as goal
 
-pub x_at-x-requires : goal.x_at-x-requires
-x_at-x-requires c = (c.requires.0.size, omega (arith, c.requires.0.rows, c.requires.1))
-
-pub overflow_cast-x : goal.overflow_cast-x
-overflow_cast-x c = record { fits = c.x_at-x.ensures.1 }
-
-pub member_at-requires : goal.member_at-requires
-member_at-requires c =
-    (c.requires.0.size, omega (arith, c.requires.0.rows, c.requires.1))
-
 pub new_rule-requires : goal.new_rule-requires
 unfolding statement_number
 new_rule-requires c =

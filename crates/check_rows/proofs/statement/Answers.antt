@@ -6,10 +6,6 @@ use native.Mathlib.Omega.{arith}
 use Rattle.rules.specs.Grammar.{statement_number}
 use Rattle.check_rows.proofs.statement.Goals as goal
 
-pub set_at-requires : goal.set_at-requires
-set_at-requires c =
-    (c.requires.0, c.requires.1, c.requires.3)
-
 pub let_at-requires : goal.let_at-requires
 unfolding statement_number
 let_at-requires c =
@@ -24,20 +20,6 @@ pub call_at-requires : goal.call_at-requires
 unfolding statement_number
 call_at-requires c =
     (c.requires.0, c.requires.1, sym c.kind_at.ensures ∙ c.in-11.is, c.requires.3)
-
-pub assert_at-requires : goal.assert_at-requires
-assert_at-requires c =
-    (c.requires.0, c.requires.1, c.requires.3)
-
-pub release_at-requires : goal.release_at-requires
-release_at-requires c =
-    (c.requires.0, c.requires.1, c.requires.3)
-
-pub open_at-requires : goal.open_at-requires
-open_at-requires c = (c.requires.0, c.requires.1, c.requires.3)
-
-pub shut_at-requires : goal.shut_at-requires
-shut_at-requires c = (c.requires.0, c.requires.1, c.requires.3)
 
 pub returns-in-8 : goal.returns-in-8
 returns-in-8 c =
@@ -66,9 +48,6 @@ returns-in-23 c = record { statement = _; is = open-means _ _ (sym c.kind_at.ens
 
 pub returns-in-24 : goal.returns-in-24
 returns-in-24 c = record { statement = _; is = shut-means _ _ (sym c.kind_at.ensures ∙ c.in-24.is); adds = c.shut_at.ensures }
-
-pub compute_at-requires : goal.compute_at-requires
-compute_at-requires c = (c.requires.0, c.requires.1, c.requires.3)
 
 pub returns-in-19 : goal.returns-in-19
 returns-in-19 c =

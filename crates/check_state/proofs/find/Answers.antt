@@ -22,61 +22,18 @@ module _ (same : Equality) (t : Rules.Term) (g x f : ℕ) where
   by-other true e = rw e
   by-other false e = refl
 
-pub label_of-a-requires : goal.label_of-a-requires
-label_of-a-requires c = (c.requires.0.some, c.requires.0.most, c.requires.0.header)
-
-pub loop-i-init : goal.loop-i-init
-loop-i-init c = (omega arith, λ fs D j h. absurd (omega arith))
-
-pub overflow_add-i : goal.overflow_add-i
-overflow_add-i c = omega arith
-
-pub bounds-b-i : goal.bounds-b-i
-bounds-b-i c = omega arith
-
-pub bounds-kinds-i : goal.bounds-kinds-i
-bounds-kinds-i c =
-    omega (arith, c.loop-i-test.true, c.requires.2)
-
-pub in_range-requires : goal.in_range-requires
-in_range-requires c = tt
-
-pub overflow_add-i-then-b-i : goal.overflow_add-i-then-b-i
-overflow_add-i-then-b-i c = omega arith
-
-pub bounds-b-i-then-b-i : goal.bounds-b-i-then-b-i
-bounds-b-i-then-b-i c = omega arith
-
-pub names-requires : goal.names-requires
-names-requires c =
-    (c.requires.0, c.label_of-a.ensures)
-
 pub returns-then-names : goal.returns-then-names
 returns-then-names c =
     λ fs D.
     record {
       within = omega arith;
-      before = c.loop-i.invariant.1 fs D;
+      before = c.loop-i.invariant fs D;
       found = λ _. by_field _ _ _ _ _ _ (eq-eqb _ _ c.if-b-i.true) ∙ sym (rw c.in_range.ensures at (c.names.ensures fs D)) ∙ c.if-names.true;
     }
 
-pub overflow_add-i-in-loop-i : goal.overflow_add-i-in-loop-i
-overflow_add-i-in-loop-i c = omega arith
-
-pub loop-i-smaller : goal.loop-i-smaller
-loop-i-smaller c = omega arith
-
 pub loop-i-preserved : goal.loop-i-preserved
-loop-i-preserved c = (
-  omega arith,
-  λ fs D. below_more _ _ (c.loop-i.invariant.1 fs D) (elim c.if-b-i.branch [
-    | then-b-i+else-names w ↦ by_field _ _ _ _ _ _ (eq-eqb _ _ w.if-b-i.true) ∙ sym (rw w.in_range.ensures at (w.names.ensures fs D)) ∙ w.if-names.false
-    | else-b-i w ↦ by-other _ _ _ _ _ _ (ne_eqb _ _ w.if-b-i.false)
-  ]),
-)
-
-pub returns : goal.returns
-returns c =
-    λ fs D.
-    let e : c.loop-i.i ≡ c.args.n = omega arith in
-    record { within = omega arith; before = rw e at (c.loop-i.invariant.1 fs D); found = λ h. absurd (omega arith) }
+loop-i-preserved c =
+    λ fs D. below_more _ _ (c.loop-i.invariant fs D) (elim c.if-b-i.branch [
+      | then-b-i+else-names w ↦ by_field _ _ _ _ _ _ (eq-eqb _ _ w.if-b-i.true) ∙ sym (rw w.in_range.ensures at (w.names.ensures fs D)) ∙ w.if-names.false
+      | else-b-i w ↦ by-other _ _ _ _ _ _ (ne_eqb _ _ w.if-b-i.false)
+    ])

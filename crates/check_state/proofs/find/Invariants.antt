@@ -1,4 +1,4 @@
-use Prim.Native.Nat.{ℕ, ◌-◌, ◌≤◌, ◌<◌}
+use Prim.Native.Nat.{ℕ, ◌<◌}
 use Rattle.check_state.specs.Questions.{Told, entry_test}
 use Rattle.check_equality.specs.Keys.{term_of}
 use mathlib.Core.Bool.{false}
@@ -7,7 +7,4 @@ use Rattle.check_state.proofs.find.Given as goal
 
 abbrev pub invariant-loop-i : goal.invariant-loop-i
 invariant-loop-i l =
-    (l.i ≤ l.n) × Told l.key l.b l.m (λ same. (j : ℕ) → j < l.i → entry_test l.b l.kinds l.least l.most (term_of l.k) l.f same j ≡ false)
-
-abbrev pub decreases-loop-i : goal.decreases-loop-i
-decreases-loop-i l = l.n - l.i
+    Told l.key l.b l.m (λ same. (j : ℕ) → j < l.i → entry_test l.b l.kinds l.least l.most (term_of l.k) l.f same j ≡ false)

@@ -1,4 +1,4 @@
-use Prim.Native.Nat.{ℕ, ◌-◌, ◌≤◌, ◌<◌}
+use Prim.Native.Nat.{ℕ, ◌<◌}
 use Rattle.check_state.specs.Questions.{Told, stands_for}
 use Rattle.check_equality.specs.Keys.{term_of}
 use mathlib.Core.Bool.{false}
@@ -6,7 +6,4 @@ use mathlib.Core.Path.{◌≡◌}
 use Rattle.check_state.proofs.first_variable.Given as goal
 
 abbrev pub invariant-loop-v : goal.invariant-loop-v
-invariant-loop-v l = (l.v ≤ 15) × Told l.key l.b l.m (λ same. (j : ℕ) → j < l.v → stands_for same l.x (term_of l.k) j ≡ false)
-
-abbrev pub decreases-loop-v : goal.decreases-loop-v
-decreases-loop-v l = 15 - l.v
+invariant-loop-v l = Told l.key l.b l.m (λ same. (j : ℕ) → j < l.v → stands_for same l.x (term_of l.k) j ≡ false)

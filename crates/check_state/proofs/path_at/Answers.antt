@@ -1,13 +1,9 @@
-use native.Mathlib.Omega.{arith}
 use Rattle.check_state.specs.Questions.{resolved_as, path_at}
 use Rattle.rules.specs.Base.{ok}
 use Rattle.rules.specs.State.{path_of}
 use borrow.Author.Tests.{lt-ltb, le-ltb}
 use mathlib.Core.Path.{ap}
 use Rattle.check_state.proofs.path_at.Goals as goal
-
-pub overflow_cast-b : goal.overflow_cast-b
-overflow_cast-b c = omega (arith, c.requires)
 
 pub returns-then-i-b : goal.returns-then-i-b
 unfolding resolved_as path_at path_of

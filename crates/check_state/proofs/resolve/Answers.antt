@@ -25,9 +25,6 @@ pub returns-in_default : goal.returns-in_default
 unfolding resolved_as
 returns-in_default c = ap ok c.key_of.ensures ∙ rest _ c.in_default.not-Path _ _
 
-pub variable_key-k-requires : goal.variable_key-k-requires
-variable_key-k-requires c = tt
-
 pub returns : goal.returns
 unfolding meaning
 returns c =

@@ -9,9 +9,6 @@ use native.Mathlib.Omega.{arith}
 use borrow.Author.Tests.{ne_eqb}
 use Rattle.check_state.proofs.variable_is.Goals as goal
 
-pub bounds-b-i : goal.bounds-b-i
-bounds-b-i c = omega arith
-
 pub returns-then-x-lt-VARIABLE_COUNT : goal.returns-then-x-lt-VARIABLE_COUNT
 unfolding alike_by
 returns-then-x-lt-VARIABLE_COUNT c =

@@ -6,9 +6,6 @@ use Rattle.check_statements.specs.Statements.{Asserts}
 use mathlib.Core.Path.{subst}
 use Rattle.check_statements.proofs.assert_rule.Goals as goal
 
-pub show-requires : goal.show-requires
-show-requires c = (c.requires.0, c.requires.1, c.requires.2, c.kinds-left.ensures)
-
 pub returns : goal.returns
 returns c =
     subst (λ (φ : Formula ℕ). Asserts φ (state_of c.args.key.now c.args.b.now) c.show.result) (plain _ _ _) (assert-law c.args.key.now c.args.b.now _ _ c.show.new.left c.show.ensures.1)

@@ -1,16 +1,16 @@
-use Rattle.check_entailment.proofs.Showing.{nothing-resolved, key-resolved}
-use Rattle.check_entailment.specs.Answers.{answered}
+use Rattle.check_entailment.proofs.Refusals.{passed-on, lost}
 use Rattle.check_state.specs.States.{state_of}
-use Rattle.check_statements.proofs.Ruled.{adds_same, adds-no, assign-found, assign-lost}
+use Rattle.check_state.specs.Questions.{resolved_as}
+use Rattle.check_statements.proofs.Ruled.{adds_same, assign-found, assign-lost}
 use mathlib.Core.Path.{sym, ◌∙◌}
-use Rattle.check_entailment.specs.declared.Answer.{Answer}
 use Rattle.check_statements.proofs.assign_rule.Goals as goal
 
-pub returns-in_default : goal.returns-in_default
-unfolding answered
-returns-in_default c =
-    adds-no Answer.Unresolved _ _ c.requires _ (assign-lost _ _ (state_of c.args.key.now c.args.b.now) (sym c.resolve.ensures ∙ nothing-resolved _ c.in_default.is))
+pub returns-in_err-k : goal.returns-in_err-k
+returns-in_err-k c =
+    rw (passed-on _ _ c.from_residual.ensures.1)
+    (assign-lost _ _ _ _ c.requires _ (lost _ _ c.in_err-k.ensures.value c.in_err-k.ensures.ok_part ∙ c.resolve.ensures))
 
 pub returns : goal.returns
+unfolding resolved_as
 returns c =
-    adds_same _ _ _ _ _ (sym (assign-found _ _ _ (state_of c.args.key.now c.args.b.now) (sym c.resolve.ensures ∙ key-resolved _ _ c.in-Key.is))) c.assign_key.ensures
+    adds_same _ _ _ _ _ (sym (assign-found _ _ _ (state_of c.args.key.now c.args.b.now) (sym (rw c.in_ok-k.ensures.ok_part at c.resolve.ensures)))) c.assign_key.ensures

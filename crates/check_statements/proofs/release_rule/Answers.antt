@@ -1,22 +1,19 @@
 use Prim.Native.Nat.{ℕ}
+use Rattle.check_entailment.proofs.Refusals.{passed-on}
 use Rattle.check_entailment.specs.Answers.{Adds}
 use Rattle.check_state.specs.States.{state_of}
 use Rattle.rules.specs.Syntax.{Formula}
-use Rattle.check_statements.proofs.Ruled.{plain, release-law}
+use Rattle.std.specs.Prelude.{Ok, Err}
+use Rattle.check_statements.proofs.Ruled.{plain, release-refused, release-law}
 use Rattle.check_statements.specs.Statements.{release_rule}
 use mathlib.Core.Path.{subst}
 use Rattle.check_statements.proofs.release_rule.Goals as goal
 
-pub kinds-left-requires : goal.kinds-left-requires
-kinds-left-requires c = tt
-
-pub show-k-requires : goal.show-k-requires
-show-k-requires c = (c.requires.0, c.requires.1, c.requires.2, c.kinds-left.ensures)
-
-pub remainder-requires : goal.remainder-requires
-remainder-requires c =
-    (c.requires.2, c.show-k.ensures.0)
+pub returns-in_err-show : goal.returns-in_err-show
+returns-in_err-show c =
+    rw (passed-on _ _ c.from_residual.ensures.1)
+    (subst (λ (φ : Formula ℕ). Adds (release_rule φ (state_of c.args.key.now c.args.b.now)) (Err c.in_err-show.field-0.0) c.args.key.now c.args.b.now) (plain _ _ _) (release-refused c.args.key.now c.args.b.now _ c.show.new.left _ c.in_err-show.ensures.1 c.requires.2))
 
 pub returns : goal.returns
 returns c =
-    subst (λ (φ : Formula ℕ). Adds (release_rule φ (state_of c.args.key.now c.args.b.now)) c.show-k.result c.remainder.new.key c.remainder.new.b) (plain _ _ _) (release-law c.args.key.now c.args.b.now _ _ _ _ c.show-k.new.left c.show-k.ensures.1 c.remainder.ensures)
+    subst (λ (φ : Formula ℕ). Adds (release_rule φ (state_of c.args.key.now c.args.b.now)) (Ok tt) c.remainder.new.key c.remainder.new.b) (plain _ _ _) (release-law c.args.key.now c.args.b.now _ c.show.new.left _ _ c.in_ok-show.ensures.1 c.remainder.ensures)

@@ -1,4 +1,4 @@
-use Prim.Native.Nat.{ℕ, ◌-◌, ◌≤◌, ◌<◌}
+use Prim.Native.Nat.{ℕ, ◌<◌}
 use mathlib.Core.Bool.{false}
 use mathlib.Core.Path.{◌≡◌}
 use Rattle.check_state.specs.Questions.{Told}
@@ -7,7 +7,4 @@ use Rattle.check_successors.proofs.first_entry.Given as goal
 
 abbrev pub invariant-loop-i : goal.invariant-loop-i
 invariant-loop-i l =
-    (l.i ≤ l.n) × Told l.key l.b l.m (λ same. (j : ℕ) → j < l.i → entry_path_test same l.b l.skip l.t j ≡ false)
-
-abbrev pub decreases-loop-i : goal.decreases-loop-i
-decreases-loop-i l = l.n - l.i
+    Told l.key l.b l.m (λ same. (j : ℕ) → j < l.i → entry_path_test same l.b l.skip l.t j ≡ false)

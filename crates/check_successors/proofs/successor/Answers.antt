@@ -1,10 +1,9 @@
-use native.Mathlib.Omega.{arith}
 use mathlib.Core.Path.{sym, ap, ◌∙◌}
 use mathlib.Core.Option.{some}
 use Rattle.check_equality.proofs.Keys.{of-null}
 use Rattle.check_inequality.proofs.Searches.{null-like}
 use Rattle.check_successors.specs.Successors.{term_or}
-use Rattle.check_successors.proofs.InOrder.{slots, is-variable, is-path, is-null, is_number, key-number, key-none}
+use Rattle.check_successors.proofs.InOrder.{slots, is-variable, is-path, is-null, is_number, key-number}
 use Rattle.check_successors.proofs.successor.Goals as goal
 
 pub returns-then-v-lt-VARIABLE_COUNT : goal.returns-then-v-lt-VARIABLE_COUNT
@@ -34,30 +33,13 @@ returns-then-alike c =
     (c.first_entry-i.ensures _ c.requires.0.linked.decides) c.if-i-p.false
     (null-like (slots c.requires.0) c.requires.0.linked.decides _ _ c.requires.1 ∙ sym c.alike.ensures ∙ c.if-alike.true)
 
-pub least_number-k-requires : goal.least_number-k-requires
-least_number-k-requires c =
-    (slots c.requires.0, c.requires.1, omega arith)
-
-pub returns-then-k-lt-FIRST_NUMBER : goal.returns-then-k-lt-FIRST_NUMBER
-unfolding term_or
-returns-then-k-lt-FIRST_NUMBER c =
-    λ ρ ps W.
-    key-none c.least_number-k.result c.if-k-lt-FIRST_NUMBER.true
-    ∙ is_number c.args.key.now c.args.b.now c.args.skip.now c.args.x c.args.t ρ ps W
-    c.first_variable-v.result (c.first_variable-v.ensures _ c.requires.0.linked.decides) c.if-v-lt-VARIABLE_COUNT.false c.first_entry-i.result
-    (c.first_entry-i.ensures _ c.requires.0.linked.decides) c.if-i-p.false
-    (null-like (slots c.requires.0) c.requires.0.linked.decides _ _ c.requires.1 ∙ sym c.alike.ensures ∙ c.if-alike.false)
-    c.least_number-k.result
-    (c.least_number-k.ensures _ c.requires.0.linked.decides)
-
 pub returns : goal.returns
-unfolding term_or
 returns c =
     λ ρ ps W.
-    key-number c.least_number-k.result c.if-k-lt-FIRST_NUMBER.false
+    key-number c.least_number.result c.least_number.ensures.0
     ∙ is_number c.args.key.now c.args.b.now c.args.skip.now c.args.x c.args.t ρ ps W
     c.first_variable-v.result (c.first_variable-v.ensures _ c.requires.0.linked.decides) c.if-v-lt-VARIABLE_COUNT.false c.first_entry-i.result
     (c.first_entry-i.ensures _ c.requires.0.linked.decides) c.if-i-p.false
     (null-like (slots c.requires.0) c.requires.0.linked.decides _ _ c.requires.1 ∙ sym c.alike.ensures ∙ c.if-alike.false)
-    c.least_number-k.result
-    (c.least_number-k.ensures _ c.requires.0.linked.decides)
+    c.least_number.result
+    (c.least_number.ensures.1 _ c.requires.0.linked.decides)

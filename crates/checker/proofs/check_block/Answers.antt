@@ -1,30 +1,18 @@
 use Rattle.checker.proofs.Blocks.{block_refused, block-ended, block-open}
-use mathlib.Core.Path.{sym, ◌∙◌}
-use native.Mathlib.Omega.{arith}
+use mathlib.Core.Path.{sym, ap, ◌∙◌}
+use Rattle.checker.specs.declared.RefusedLine.{RefusedLine}
+use Rattle.std.proofs.Common.{Err}
+use Rattle.checker.specs.Checked.{verdict_of}
 use Rattle.checker.proofs.check_block.Goals as goal
 
-pub block-r-requires : goal.block-r-requires
-block-r-requires c =
-    (record { tables = c.requires.0; deep = omega arith; within = c.requires.1; nests = c.requires.2; atoms = c.requires.3 }, c.requires.4)
+pub returns-in-Err : goal.returns-in-Err
+returns-in-Err c =
+    (ap (λ (e : RefusedLine). verdict_of (Err e)) c.line_of.ensures ∙ block_refused _ c.requires.0 _ _ _ _ _ _ c.in-Err.ensures, c.in-Err.ensures.went.wf)
 
-pub line_at-line-requires : goal.line_at-line-requires
-line_at-line-requires c = (c.requires.0.size, omega (arith, c.requires.0.rows, c.block-r.ensures.went.within))
-
-pub returns-in_default : goal.returns-in_default
-returns-in_default c =
-    (block_refused _ c.requires.0 _ _ _ _ _ _ c.block-r.ensures _ c.line_at-line.ensures.0 c.in_default.not-Done, c.block-r.ensures.went.wf)
-
-pub kind_at-requires : goal.kind_at-requires
-kind_at-requires c = (c.requires.0.size, omega (arith, c.requires.0.rows, c.block-r.ensures.went.within))
-
-pub show_end-l-requires : goal.show_end-l-requires
-show_end-l-requires c =
-    (c.requires.0.size, c.requires.3, c.block-r.ensures.went.wf)
-
-pub returns-then-kind_at-eq-END : goal.returns-then-kind_at-eq-END
-returns-then-kind_at-eq-END c =
-    (c.ended.ensures ∙ block-ended _ c.requires.0 _ _ _ _ _ _ c.block-r.ensures _ c.line_at-line.ensures.0 c.in-Done.is (sym c.kind_at.ensures ∙ c.if-kind_at-eq-END.true) _ c.show_end-l.ensures, c.block-r.ensures.went.wf)
+pub returns-then-kind_at-ne-END : goal.returns-then-kind_at-ne-END
+returns-then-kind_at-ne-END c =
+    (block-open _ c.requires.0 _ _ _ _ _ _ c.in-Ok.ensures _ c.line_at-line.ensures.0 (λ e. c.if-kind_at-ne-END.true (c.kind_at.ensures ∙ e)), c.in-Ok.ensures.went.wf)
 
 pub returns : goal.returns
 returns c =
-    (block-open _ c.requires.0 _ _ _ _ _ _ c.block-r.ensures _ c.line_at-line.ensures.0 c.in-Done.is (λ e. c.if-kind_at-eq-END.false (c.kind_at.ensures ∙ e)), c.block-r.ensures.went.wf)
+    (ap verdict_of c.on_line.ensures ∙ block-ended _ c.requires.0 _ _ _ _ _ _ c.in-Ok.ensures _ c.line_at-line.ensures.0 (sym c.kind_at.ensures ∙ c.if-kind_at-ne-END.false) _ c.show_end.ensures, c.in-Ok.ensures.went.wf)

@@ -1,13 +1,6 @@
-use Rattle.check_labels.proofs.Rebuilding.{wf-sized}
 use Rattle.check_dropping.proofs.GivingWay.{gave-way}
 use Rattle.check_dropping.proofs.Ways.{gave_keeps, gave-untouched}
 use Rattle.check_dropping.proofs.giving.forget.Goals as goal
-
-pub give_way-requires : goal.give_way-requires
-give_way-requires c = (c.requires.0, c.requires.1, c.requires.3)
-
-pub whole-requires : goal.whole-requires
-whole-requires c = (c.requires.3.most, c.requires.0.linked.fit)
 
 pub repack-requires : goal.repack-requires
 repack-requires c =
@@ -15,9 +8,6 @@ repack-requires c =
 
 pub returns-then-whole : goal.returns-then-whole
 returns-then-whole c = gave-way _ _ _ _ _ _ _ _ _ _ c.give_way.ensures c.repack.ensures
-
-pub rebuild-requires : goal.rebuild-requires
-rebuild-requires c = wf-sized _ _ _ c.give_way.ensures.header c.requires.0
 
 pub returns : goal.returns
 returns c = gave-way _ _ _ _ _ _ _ _ _ _ c.give_way.ensures c.rebuild.ensures

@@ -1,11 +1,6 @@
-use Prim.Native.Nat.{◌+◌, ◌*◌, ◌-◌, ◌≤◌}
-use Rattle.check_equality.specs.Layout.{left_sides}
 use Rattle.check_dropping.specs.Dropping.{Giving}
 use Rattle.check_dropping.proofs.GivingWay.{Given}
 use Rattle.check_dropping.proofs.giving.give_way.Given as goal
 
 abbrev pub invariant-loop-j : goal.invariant-loop-j
-invariant-loop-j l = (left_sides ≤ l.j) × (left_sides + 2 * l.from ≤ l.j) × Giving l.initial.key l.b l.skip l.x l.j l.key l.gone l.lead × Given l.initial.key l.b l.skip l.x l.initial.gone l.from l.j l.key l.gone
-
-abbrev pub decreases-loop-j : goal.decreases-loop-j
-decreases-loop-j l = l.m - l.j
+invariant-loop-j l = Giving l.initial.key l.b l.skip l.x l.j l.key l.gone l.lead × Given l.initial.key l.b l.skip l.x l.initial.gone l.from l.j l.key l.gone

@@ -8,4 +8,4 @@ returns-in_default c = rw c.in_default.is (stored-none _ _ _ c.requires.0 c.requ
 
 pub returns : goal.returns
 unfolding term_or
-returns c = rw c.in-Key.is (stored-key _ _ _ c.requires.0 c.requires.1 c.requires.2 c.requires.3 _)
+returns c = rw c.in-Some.is (stored-key _ _ _ c.requires.0 c.requires.1 c.requires.2 c.requires.3 _)

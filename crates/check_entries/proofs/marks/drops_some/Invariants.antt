@@ -1,4 +1,3 @@
-use Prim.Native.Nat.{◌-◌, ◌≤◌}
 use Rattle.check_entries.specs.PathsOut.{dropped_at}
 use Rattle.check_state.specs.Questions.{places}
 use Rattle.rules.specs.Base.{any}
@@ -7,7 +6,4 @@ use mathlib.Core.Path.{◌≡◌}
 use Rattle.check_entries.proofs.marks.drops_some.Given as goal
 
 abbrev pub invariant-loop-i : goal.invariant-loop-i
-invariant-loop-i l = (l.i ≤ l.n) × (any (dropped_at l.b l.out l.n) (places l.i) ≡ false)
-
-abbrev pub decreases-loop-i : goal.decreases-loop-i
-decreases-loop-i l = l.n - l.i
+invariant-loop-i l = (any (dropped_at l.b l.out l.n) (places l.i) ≡ false)

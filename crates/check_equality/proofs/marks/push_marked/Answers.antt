@@ -1,4 +1,4 @@
-use Rattle.check_equality.proofs.Labels.{header_of_lem, pushed, marked_more}
+use Rattle.check_equality.proofs.Labels.{pushed, marked_more}
 use Rattle.check_equality.specs.Links.{Marked}
 use lib.ListN.{length, length-set}
 use mathlib.Core.Bool.{Bool}
@@ -10,18 +10,6 @@ use Rattle.check_equality.proofs.marks.push_marked.Goals as goal
 
 marks-on : (m : ℕ) (key : List ℕ) (marks : List Bool) → Marked key marks (m + 1 + 1) → Marked key marks (m + 2)
 marks-on m key marks M = let e : m + 1 + 1 ≡ m + 2 = omega arith in subst (λ (n : ℕ). Marked key marks n) e M
-
-pub label_marked-r-requires : goal.label_marked-r-requires
-label_marked-r-requires c =
-    (omega arith, omega arith, header_of_lem _ _ _ _ c.add_slot.ensures.keys c.requires.2 c.requires.0, marked_more _ _ _ _ _ _ c.add_slot.ensures.keys (omega (arith, c.requires.2.size)) c.place-p.ensures c.requires.4)
-
-pub add_slot-requires-2 : goal.add_slot-requires-2
-add_slot-requires-2 c =
-    (omega arith, omega arith, header_of_lem _ _ _ _ c.add_slot.ensures.keys c.requires.2 c.requires.0, c.add_slot.ensures.size ∙ c.requires.3, c.label_marked-r.ensures)
-
-pub link_unless-requires : goal.link_unless-requires
-link_unless-requires c =
-    (c.requires.1, c.add_slot-2.ensures.size ∙ c.add_slot.ensures.size ∙ c.requires.3)
 
 pub returns : goal.returns
 returns c = (

@@ -5,7 +5,7 @@ use lib.ListN.{length, get_or, set, length-set}
 use lib.Seq.{get_or-set_same, get_or-set_other}
 use mathlib.Core.List.{List}
 use mathlib.Core.Logic.{⊎_elim}
-use mathlib.Core.Path.{◌≡◌, refl, ap, ◌∙◌}
+use mathlib.Core.Path.{◌≡◌, ap, ◌∙◌}
 use native.Mathlib.Omega.{arith}
 use Rattle.check_equality.proofs.slots.merge.Goals as goal
 
@@ -20,34 +20,12 @@ picked_more from to old l i n h before e j g = ⊎_elim here there (decide_eq j 
     there : (j ≡ i → ⊥) → get_or (set l i n) j 0 ≡ picked from to (get_or old j 0)
     there d = get_or-set_other l i j n 0 d ∙ before j (omega arith)
 
-pub loop-i-init : goal.loop-i-init
-loop-i-init c = (omega arith, c.requires, c.requires, λ j h. absurd (omega arith), λ j h. refl)
-
-pub bounds-label-i : goal.bounds-label-i
-bounds-label-i c = omega arith
-
-pub pick-requires : goal.pick-requires
-pick-requires c = tt
-
-pub bounds-label-i-in-loop-i : goal.bounds-label-i-in-loop-i
-bounds-label-i-in-loop-i c = omega arith
-
-pub overflow_add-i : goal.overflow_add-i
-overflow_add-i c = omega arith
-
-pub loop-i-smaller : goal.loop-i-smaller
-loop-i-smaller c = omega arith
-
 pub loop-i-preserved : goal.loop-i-preserved
+unfolding picked
 loop-i-preserved c = (
-  omega arith,
-  length-set c.loop-i.label c.loop-i.i _ ∙ c.loop-i.invariant.1,
-  c.loop-i.invariant.2,
-  picked_more c.args.from c.args.to c.args.label.now c.loop-i.label c.loop-i.i _ (omega (arith, c.loop-i.invariant.1)) c.loop-i.invariant.3
-      (c.pick.ensures ∙ ap (picked c.args.from c.args.to) (c.loop-i.invariant.4 c.loop-i.i (omega arith))),
-  λ j h. get_or-set_other c.loop-i.label c.loop-i.i j _ 0 (omega arith) ∙ c.loop-i.invariant.4 j (omega arith),
+  length-set c.loop-i.label c.loop-i.i _ ∙ c.loop-i.invariant.0,
+  c.loop-i.invariant.1,
+  picked_more c.args.from c.args.to c.args.label.now c.loop-i.label c.loop-i.i _ (omega (arith, c.loop-i.invariant.0)) c.loop-i.invariant.2
+      (c.pick.ensures ∙ ap (picked c.args.from c.args.to) (c.loop-i.invariant.3 c.loop-i.i (omega arith))),
+  λ j h. get_or-set_other c.loop-i.label c.loop-i.i j _ 0 (omega arith) ∙ c.loop-i.invariant.3 j (omega arith),
 )
-
-pub returns : goal.returns
-returns c =
-    record { size = omega (arith, c.loop-i.invariant.1, c.loop-i.invariant.2); labels = λ i h. c.loop-i.invariant.3 i (omega arith); rest = λ i h. c.loop-i.invariant.4 i (omega arith) }

@@ -1,5 +1,5 @@
-use Prim.Native.Nat.{ℕ, ◌-◌, ◌≤◌, ◌<◌}
-use Rattle.check_equality.specs.Layout.{slots, bytes}
+use Prim.Native.Nat.{ℕ, ◌≤◌, ◌<◌}
+use Rattle.check_equality.specs.Layout.{bytes}
 use Rattle.check_equality.specs.Links.{picked}
 use lib.ListN.{length, get_or}
 use mathlib.Core.Path.{◌≡◌}
@@ -7,7 +7,4 @@ use Rattle.check_equality.proofs.slots.merge.Given as goal
 
 abbrev pub invariant-loop-i : goal.invariant-loop-i
 invariant-loop-i l =
-    (l.i ≤ slots) × (length l.label ≡ bytes) × (length l.initial.label ≡ bytes) × ((j : ℕ) → j < l.i → get_or l.label j 0 ≡ picked l.from l.to (get_or l.initial.label j 0)) × ((j : ℕ) → l.i ≤ j → get_or l.label j 0 ≡ get_or l.initial.label j 0)
-
-abbrev pub decreases-loop-i : goal.decreases-loop-i
-decreases-loop-i l = slots - l.i
+    (length l.label ≡ bytes) × (length l.initial.label ≡ bytes) × ((j : ℕ) → j < l.i → get_or l.label j 0 ≡ picked l.from l.to (get_or l.initial.label j 0)) × ((j : ℕ) → l.i ≤ j → get_or l.label j 0 ≡ get_or l.initial.label j 0)

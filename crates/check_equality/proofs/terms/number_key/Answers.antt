@@ -3,4 +3,4 @@ use Rattle.check_equality.proofs.Keys.{of_number}
 use Rattle.check_equality.proofs.terms.number_key.Goals as goal
 
 pub returns : goal.returns
-returns c = of_number _ ∙ rw c.wide_number.ensures.0
+returns c = of_number _ ∙ rw c.from.ensures

@@ -7,4 +7,4 @@ use Rattle.check_equality.proofs.terms.path_key.Goals as goal
 
 pub returns : goal.returns
 returns c =
-    (of-path _ _ c.wide-a.ensures.1 c.wide-b.ensures.1 ∙ ap₂ path c.wide-a.ensures.0 c.wide-b.ensures.0, ap₂ (λ (m n : ℕ). 257 + m * 256 + n) c.wide-a.ensures.0 c.wide-b.ensures.0, omega arith)
+    (of-path _ _ (omega arith) (omega arith) ∙ ap₂ path c.from.ensures c.from-2.ensures, ap₂ (λ (m n : ℕ). 257 + m * 256 + n) c.from.ensures c.from-2.ensures, omega arith)

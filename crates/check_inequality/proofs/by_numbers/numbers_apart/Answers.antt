@@ -1,10 +1,6 @@
 use Rattle.check_inequality.proofs.Numbers.{apart-law}
 use mathlib.Core.Path.{◌∙◌}
-use native.Mathlib.Omega.{arith}
 use Rattle.check_inequality.proofs.by_numbers.numbers_apart.Goals as goal
-
-pub different_numbers-requires : goal.different_numbers-requires
-different_numbers-requires c = omega arith
 
 pub returns : goal.returns
 returns c =

@@ -1,4 +1,3 @@
-use Prim.Native.Nat.{◌-◌, ◌≤◌}
 use Rattle.check_state.specs.Questions.{places}
 use Rattle.check_inequality.specs.Ways.{other_in}
 use Rattle.rules.specs.Base.{any}
@@ -7,7 +6,4 @@ use mathlib.Core.Path.{◌≡◌}
 use Rattle.check_inequality.proofs.by_numbers.other_number.Given as goal
 
 abbrev pub invariant-loop-i : goal.invariant-loop-i
-invariant-loop-i l = (l.i ≤ l.n) × (any (other_in l.key l.label l.l l.b l.j) (places l.i) ≡ false)
-
-abbrev pub decreases-loop-i : goal.decreases-loop-i
-decreases-loop-i l = l.n - l.i
+invariant-loop-i l = (any (other_in l.key l.label l.l l.b l.j) (places l.i) ≡ false)

@@ -1,36 +1,5 @@
-use Rattle.std.proofs.Common.{arith}
-use Rattle.check_scans.proofs.Dropping.{dropped-more, dropped-all}
+use Rattle.std.proofs.Common.{rules}
 use Rattle.check_scans.proofs.sides.drop_paths.Goals as goal
 
-pub bounds-b-337 : goal.bounds-b-337
-bounds-b-337 c = omega (arith, c.requires.1, c.requires.2.0)
-
-pub overflow_cast-n : goal.overflow_cast-n
-overflow_cast-n c = omega (arith, c.requires.1, c.requires.2.0)
-
-pub loop-i-init : goal.loop-i-init
-loop-i-init c = (c.requires.0, c.requires.3)
-
-pub offset_bounds-key-i : goal.offset_bounds-key-i
-offset_bounds-key-i c = omega (arith, c.requires.1, c.requires.2.0)
-
-pub bounds-key-i : goal.bounds-key-i
-bounds-key-i c = omega (arith, c.requires.1, c.requires.2.0)
-
-pub names_dropped-requires : goal.names_dropped-requires
-names_dropped-requires c = (c.requires.2.0, c.requires.2.1)
-
-pub bounds-gone-i : goal.bounds-gone-i
-bounds-gone-i c = omega (arith, c.loop-i.invariant.1.size, c.requires.1)
-
-pub overflow_add-i : goal.overflow_add-i
-overflow_add-i c = omega (arith, c.requires.1, c.requires.2.0)
-
-pub loop-i-smaller : goal.loop-i-smaller
-loop-i-smaller c = omega arith
-
-pub loop-i-preserved : goal.loop-i-preserved
-loop-i-preserved c = (omega arith, dropped-more _ _ c.loop-i.i c.loop-i.gone _ (omega (arith, c.requires.1)) c.loop-i.invariant.1 c.names_dropped.ensures)
-
 pub returns : goal.returns
-returns c = dropped-all _ _ _ _ _ (omega arith) c.loop-i.invariant.1
+returns c = c.drop_sides.ensures _ (λ j r a h p. search rules) c.requires.3

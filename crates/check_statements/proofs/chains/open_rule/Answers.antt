@@ -1,16 +1,13 @@
+use Rattle.check_entailment.proofs.Refusals.{passed-on}
 use Rattle.check_state.specs.States.{state_of}
-use Rattle.check_entailment.specs.Answers.{answered}
-use Rattle.check_entailment.specs.declared.Answer.{Answer}
-use Rattle.check_statements.proofs.Ruled.{adds_same, adds-no}
+use Rattle.check_statements.proofs.Ruled.{adds_same}
 use Rattle.check_statements.proofs.Opening.{open-null, open-object}
-use mathlib.Core.Path.{sym, ◌∙◌}
 use Rattle.check_statements.proofs.chains.open_rule.Goals as goal
 
-pub returns-then-holds : goal.returns-then-holds
-returns-then-holds c =
-    adds_same _ _ _ _ _ (open-object _ _ _ _ (state_of c.args.key.now c.args.b.now) c.variable_key-v.ensures.0 (sym c.if-holds.true ∙ c.holds.ensures)) c.open_shown.ensures
+pub returns-in_err-object : goal.returns-in_err-object
+returns-in_err-object c =
+    rw (passed-on _ _ c.from_residual.ensures.1) (open-null _ _ _ _ _ c.requires _ c.in_err-object.ensures)
 
 pub returns : goal.returns
-unfolding answered
 returns c =
-    adds-no Answer.NotShown _ _ c.requires _ (open-null _ _ _ _ (state_of c.args.key.now c.args.b.now) c.variable_key-v.ensures.0 (sym c.if-holds.false ∙ c.holds.ensures))
+    adds_same _ _ _ _ _ (open-object _ _ _ (state_of c.args.key.now c.args.b.now) c.in_ok-object.ensures) c.open_shown.ensures

@@ -1,4 +1,4 @@
-use Prim.Native.Nat.{◌-◌, ◌≤◌}
+use Prim.Native.Nat.{◌-◌}
 use Rattle.check_state.specs.States.{state_of, Wf}
 use Rattle.rules.specs.Rules.{add_initial}
 use Rattle.tables.specs.Decode.{fields_from}
@@ -7,7 +7,4 @@ use Rattle.check_statements.proofs.objects.add_initial.Given as goal
 
 abbrev pub invariant-loop-j : goal.invariant-loop-j
 invariant-loop-j l =
-    (l.j ≤ l.n) × Wf l.key l.b × (add_initial l.x (fields_from l.w l.c 0 l.n) (state_of l.initial.key l.initial.b) ≡ add_initial l.x (fields_from l.w l.c l.j (l.n - l.j)) (state_of l.key l.b))
-
-abbrev pub decreases-loop-j : goal.decreases-loop-j
-decreases-loop-j l = l.n - l.j
+    Wf l.key l.b × (add_initial l.x (fields_from l.w l.c 0 l.n) (state_of l.initial.key l.initial.b) ≡ add_initial l.x (fields_from l.w l.c l.j (l.n - l.j)) (state_of l.key l.b))
