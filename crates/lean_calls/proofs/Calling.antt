@@ -27,7 +27,6 @@ use Rattle.tables.proofs.Decoding.{first-row-same}
 use Rattle.run_heap.specs.Views.{frame_at, variable_at, fill, frame_put, prepared, next_view, frame_holder, frame_row, frame_method, frame_parameter}
 use Rattle.run_footprint.specs.Footprints.{spread, marked, take_in, SharesFit}
 use Rattle.run_footprint.proofs.Regions.{only-word, only-fill, only-tables, only-half, only-trans}
-use Rattle.run_steps.specs.declared.Turn as Full
 use Rattle.run_steps.specs.States.{Represents, most_count}
 use Rattle.run_steps.proofs.Moves.{sees}
 use Rattle.run_calls.specs.Calls.{call_here}
@@ -35,7 +34,7 @@ use Rattle.run_calls.proofs.Calling as Calls
 use Rattle.machine.proofs.Stepping.{call-is, does-as}
 use Rattle.lean_heap.specs.declared.Counters.{Counters}
 use Rattle.lean_heap.specs.declared.Stop.{Stop}
-use Rattle.lean_heap.specs.declared.Turn.{Turn}
+use Rattle.std.specs.Prelude.{Some, Ok, Err}
 use Rattle.lean_heap.specs.Ghosts.{Bare, Stands, Unstuck, Follows, Does, CanStep, AtKind, full, stop_in, stop_of}
 use Rattle.lean_heap.proofs.Bares.{half-both, word-both, fill-both, ghost-marked, ghost-holder, ghost-method}
 use Rattle.lean_heap.proofs.Following.{try_ok, check-passes, ghost-ready, ghost-tables, ghost-size, y-is, z-is, member_is, frames-fit, fits, kind-is, step_is, on-as, variable-is, does-on, does-stop}
@@ -168,18 +167,18 @@ module _ {w : List ℕ} {c : Counters} (k : AtKind w c Call) where
                 let (f, q) = fault-of s in
                 not_stopped goes
                 ((Calls.calls (ghost-ready S more) (kind-is S k) y z n o p (ey ∙ y-is S) (ez ∙ z-is S) (en ∙ member_is S) o_is p-is lo lp u
-                (Full.Turn.Stopped f) not_null (inr (f, e ∙ ap no q, refl, refl))).follows m S.represents).0
+                (Err f) not_null (inr (f, e ∙ ap no q, refl, refl))).follows m S.represents).0
 
         pub call-on :
             Follows (framed w (frame_at (c.frames - 1)) (frame_at (c.frames - 1) + 72) c.row o p) c
-            (Turn.On (called c (first_row_at u n))) m (step whole_heap (program_in w) m)
+            (Ok (Some (called c (first_row_at u n)))) m (step whole_heap (program_in w) m)
         call-on =
             let (ss, e) = called-with in
             let g = ghost-ready S more in
             let h : ℕ = S.holders + 1 in
             let D =
             Calls.calls g (kind-is S k) y z n o p (ey ∙ y-is S) (ez ∙ z-is S) (en ∙ member_is S) o_is p-is lo lp
-            (marked u (spread u c.objects ss) S.holder h) (Full.Turn.On (full (called c (first_row_at u n)) h h)) not_null
+            (marked u (spread u c.objects ss) S.holder h) (Ok (Some (full (called c (first_row_at u n)) h h))) not_null
             (inl (ss, e, (lf, refl, refl))) in
             let fit : SharesFit (spread u c.objects ss) =
             (Calls.calling g (kind-is S k) y z n o p (ey ∙ y-is S) (ez ∙ z-is S) (en ∙ member_is S) o_is p-is lo lp).fit ss e in
@@ -199,14 +198,14 @@ module _ {w : List ℕ} {c : Counters} (k : AtKind w c Call) where
             ∙ sym (first-row-same v u (Calls.call-tables I y z n o p exists ly lz o_is p-is lo lp lh) n l)
 
   -- THE CODE
-  pub frames-full : CanStep w c → most_frames ≤ c.frames → Does w c w (Turn.Stopped Stop.FramesFull)
+  pub frames-full : CanStep w c → most_frames ≤ c.frames → Does w c w (Err Stop.FramesFull)
   frames-full R l = does-stop Stop.FramesFull (λ m S U. (call-full S U R.more l, S))
 
   pub call-does :
       (R : CanStep w c) (b y z o p n first : ℕ) {w' : List ℕ} {d : Counters} → c.frames < most_frames → b ≡ frame_at (c.frames - 1) →
       y ≡ y_at w c.row → o ≡ variable_at w b y → o < 4294967296 → z ≡ z_at w c.row → p ≡ variable_at w b z → p < 4294967296 →
       n ≡ member_at w c.row → first ≡ first_row_at w n → w' ≡ framed w b (b + 72) c.row o p → d ≡ called c first →
-      Does w c w' (Turn.On d)
+      Does w c w' (Ok (Some d))
   call-does R b y z o p n first lf eb ey eo lo ez ep lp en ef e q =
       does-on (e ∙ rw eb) (q ∙ ap (called c) ef) (framed-tables w (c.frames - 1) c.row o p (omega (arith, lf)))
       (λ m S U.

@@ -25,7 +25,7 @@ use Rattle.run_calls.proofs.Growing as Grows
 use Rattle.machine.proofs.Stepping.{new_is, does-as}
 use Rattle.lean_heap.specs.declared.Counters.{Counters}
 use Rattle.lean_heap.specs.declared.Stop.{Stop}
-use Rattle.lean_heap.specs.declared.Turn.{Turn}
+use Rattle.std.specs.Prelude.{Some, Ok, Err}
 use Rattle.lean_heap.specs.Ghosts.{Bare, Stands, Does, CanStep, AtKind, full, stop_in, stop_of}
 use Rattle.lean_heap.proofs.Bares.{set_both, half-both, word-both, fill-both, ghost-holders}
 use Rattle.lean_heap.proofs.Following.{ghost-ready, ghost-tables, ghost-size, x-is, fits, kind-is, on-as, stop-as, does-on, does-stop, has-frames, has-size, member_is, x-small}
@@ -83,7 +83,7 @@ module _ {w : List ℕ} {c : Counters} (k : AtKind w c New) (R : CanStep w c) (c
 
   module _ (n : ℕ) (en : n ≡ field_count_at w class) where
     -- THE CODE
-    pub heap-full : (heap_objects ≤ c.objects) ⊎ (heap_fields < c.fields + n) → Does w c w (Turn.Stopped Stop.HeapFull)
+    pub heap-full : (heap_objects ≤ c.objects) ⊎ (heap_fields < c.fields + n) → Does w c w (Err Stop.HeapFull)
     unfolding stop_of stop_in Lean.stop_of Views.stop_of
     heap-full o =
         does-stop Stop.HeapFull
@@ -104,7 +104,7 @@ module _ {w : List ℕ} {c : Counters} (k : AtKind w c New) (R : CanStep w c) (c
 
       pub new-does :
           (b x : ℕ) {w' : List ℕ} {d : Counters} → b ≡ frame_at (c.frames - 1) → x ≡ x_at w c.row →
-          w' ≡ put_word u (b + x * 4) (c.objects + 1) → d ≡ larger c n → Does w c w' (Turn.On d)
+          w' ≡ put_word u (b + x * 4) (c.objects + 1) → d ≡ larger c n → Does w c w' (Ok (Some d))
       new-does b x eb ex p q =
           does-on p q
           (same-trans same-made

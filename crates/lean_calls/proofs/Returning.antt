@@ -26,7 +26,6 @@ use Rattle.run_heap.specs.Views.{frame_at, variable_at, saved_holder, saved_row,
 use Rattle.run_footprint.specs.Footprints.{spread, take_in, SharesFit}
 use Rattle.run_footprint.proofs.Regions.{Only, only-word, only-tables}
 use Rattle.run_footprint.proofs.Handing.{only-marked}
-use Rattle.run_steps.specs.declared.Turn as Full
 use Rattle.run_steps.specs.States as States
 use Rattle.run_steps.specs.States.{CallersAre, Represents}
 use Rattle.run_steps.proofs.Keeping.{same-frame}
@@ -36,7 +35,7 @@ use Rattle.run_returns.proofs.Returning as Returns
 use Rattle.run_returns.proofs.Resulting.{source_fits, end-ready, followed, return-goes}
 use Rattle.machine.proofs.Stepping.{back_is, does-as}
 use Rattle.lean_heap.specs.declared.Counters.{Counters}
-use Rattle.lean_heap.specs.declared.Turn.{Turn}
+use Rattle.std.specs.Prelude.{Some, None, Ok, Err}
 use Rattle.lean_heap.specs.Ghosts.{Stands, Unstuck, Follows, Does, CanStep, AtKind, full}
 use Rattle.lean_heap.proofs.Bares.{word-both, ghost-marked, bare-row}
 use Rattle.lean_heap.proofs.Following.{try_ok, ghost-ready, ghost-tables, ghost-size, row_is, frames-fit, kind-is, step_is, on-as, variable-is, does-on, has-frames}
@@ -170,10 +169,10 @@ module _ {w : List ℕ} {c : Counters} (k : AtKind w c Return ⊎ AtKind w c End
             go (no a) e =
                 let (f, q) = fault-of a in
                 not_stopped goes.1
-                (followed g (view_of K) refl s n s-is n-is ln refl (Returns.end-stops ready many f (e ∙ ap no q)) m S.represents (Full.Turn.Stopped f) refl).0
+                (followed g (view_of K) refl s n s-is n-is ln refl (Returns.end-stops ready many f (e ∙ ap no q)) m S.represents (Err f) refl).0
 
         -- with the result put in the lean machine's stores too
-        back-with : Follows (put_word (put_word w from n) to n) c (Turn.On (back c (r + 1))) m (step whole_heap (program_in w) m)
+        back-with : Follows (put_word (put_word w from n) to n) c (Ok (Some (back c (r + 1)))) m (step whole_heap (program_in w) m)
         back-with =
             let (ss, e) = passed in
             let h : ℕ = saved_holder v₁ (c.frames - 2) in
@@ -194,7 +193,7 @@ module _ {w : List ℕ} {c : Counters} (k : AtKind w c Return ⊎ AtKind w c End
             (ghost-marked (spread v₁ c.objects ss) S.holder h fit
             (word-both from n (omega (arith, ghost-size S, (frames-fit S).1)) S.bare)))
 
-        pub back_on : Follows (put_word w to n) c (Turn.On (back c (r + 1))) m (step whole_heap (program_in w) m)
+        pub back_on : Follows (put_word w to n) c (Ok (Some (back c (r + 1)))) m (step whole_heap (program_in w) m)
         back_on =
             let G = back-with in
             let u : List ℕ = put_word w to n in
@@ -211,13 +210,13 @@ module _ {w : List ℕ} {c : Counters} (k : AtKind w c Return ⊎ AtKind w c End
             }
 
   -- THE CODE
-  pub back_done : c.frames ≡ 1 → Does w c w Turn.Done
+  pub back_done : c.frames ≡ 1 → Does w c w (Ok None)
   back_done e = record { tables = same_refl w; follows = λ m S U. (is_done S e, S) }
 
   pub back-does :
       (b s n r x : ℕ) {w' : List ℕ} {d : Counters} → (c.frames ≡ 1 → ⊥) → b ≡ frame_at (c.frames - 1) → s ≡ source_of w c.row →
       n ≡ variable_at w b s → n < 4294967296 → r ≡ saved_row w (c.frames - 2) → x ≡ x_at w r → w' ≡ put_word w (b - 72 + x * 4) n →
-      d ≡ back c (r + 1) → Does w c w' (Turn.On d)
+      d ≡ back c (r + 1) → Does w c w' (Ok (Some d))
   back-does b s n r x many eb es en ln er ex e q =
       let lx : x < frame_variables = target_small many r er ex in
       let at : b - 72 + x * 4 ≡ frame_at (c.frames - 2) + x * 4 = omega (arith, eb, many, (has-frames R).0) in

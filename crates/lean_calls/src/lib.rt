@@ -14,14 +14,6 @@ use rules::Machine;
 use run_heap::Stores;
 use tables::Layout;
 
-// Where a frame keeps the value of w, and its row after the number by which the full machine's holds.
-const PARAMETER_AT: usize = Stores::WORD_BYTES;
-
-const ROW_AT: usize = (Stores::VARIABLES + 1) * Stores::WORD_BYTES;
-
-// Where an object keeps the number of its first cell, after its class.
-const FIRST_AT: usize = 2;
-
 // The place of the next frame, after that at a, and the row that this one must keep.
 fn prepare(work: &mut [u8], a: usize, row: usize, o: u32, p: u32)
     requires { (length work.old ≡ work_bytes) × ((a + frame_bytes + frame_bytes ≤ work_bytes) × (row < most_statements)) }
@@ -30,8 +22,8 @@ fn prepare(work: &mut [u8], a: usize, row: usize, o: u32, p: u32)
     let b = a + Layout::FRAME_BYTES;
     run_heap::fill_words(work, b, Stores::VARIABLES, 0);
     tables::put_word(work, b, o);
-    tables::put_word(work, b + PARAMETER_AT, p);
-    tables::put_half(work, a + ROW_AT, row);
+    tables::put_word(work, b + Stores::PARAMETER_AT, p);
+    tables::put_half(work, a + Stores::ROW_AT, row);
 }
 
 // One step more, in a call.
@@ -55,7 +47,7 @@ pub fn call_step(work: &mut [u8], c: Counters) -> Turn
     ensures { Does work.old c work.new result }
 {
     if Machine::FRAMES as u32 <= c.frames {
-        return Turn::Stopped(Stop::FramesFull);
+        return Err(Stop::FramesFull);
     }
     let row = c.row as usize;
     let b = lean_heap::base_of(c);
@@ -66,7 +58,7 @@ pub fn call_step(work: &mut [u8], c: Counters) -> Turn
     let m = tables::member_at(work, row);
     let first = tables::first_row_at(work, m);
     prepare(work, b, row, o, p);
-    Turn::On(call_in(c, first as u32))
+    Ok(Some(call_in(c, first as u32)))
 }
 
 // One step more, back in the caller.
@@ -90,7 +82,7 @@ pub fn back_step(work: &mut [u8], c: Counters) -> Turn
     ensures { Does work.old c work.new result }
 {
     if c.frames == 1 {
-        return Turn::Done;
+        return Ok(None);
     }
     let b = lean_heap::base_of(c);
     let s = run_returns::source(work, c.row as usize);
@@ -99,7 +91,7 @@ pub fn back_step(work: &mut [u8], c: Counters) -> Turn
     let row = run_heap::saved_row(work, i);
     let x = tables::x_at(work, row);
     tables::put_word(work, b - Layout::FRAME_BYTES + x * Stores::WORD_BYTES, n);
-    Turn::On(back_in(c, row as u32 + 1))
+    Ok(Some(back_in(c, row as u32 + 1)))
 }
 
 // Object i + 1, of a class with n fields, which are the cells from k on.
@@ -109,7 +101,7 @@ fn make_object(work: &mut [u8], i: usize, k: usize, class: usize, n: usize)
 {
     let at = Layout::OBJECTS + i * Layout::OBJECT_BYTES;
     tables::put_byte(work, at, class);
-    tables::put_half(work, at + FIRST_AT, k);
+    tables::put_half(work, at + Stores::FIRST_AT, k);
     run_heap::fill_words(work, Layout::VALUES + k * Stores::WORD_BYTES, n, 0);
 }
 
@@ -137,15 +129,15 @@ pub fn new_step(work: &mut [u8], c: Counters) -> Turn
     let class = tables::member_at(work, row);
     let n = tables::field_count_at(work, class);
     if Machine::OBJECTS as u32 <= c.objects {
-        return Turn::Stopped(Stop::HeapFull);
+        return Err(Stop::HeapFull);
     }
     let fields = c.fields + n as u32;
     if (Machine::FIELDS as u32) < fields {
-        return Turn::Stopped(Stop::HeapFull);
+        return Err(Stop::HeapFull);
     }
     let b = lean_heap::base_of(c);
     let x = tables::x_at(work, row);
     make_object(work, c.objects as usize, c.fields as usize, class, n);
     tables::put_word(work, b + x * Stores::WORD_BYTES, c.objects + 1);
-    Turn::On(grow(c, n as u32))
+    Ok(Some(grow(c, n as u32)))
 }

@@ -30,13 +30,13 @@ use Rattle.run_heap.specs.Views.{frame_holder, frame_at, variable_at, cell_value
 use Rattle.run_heap.proofs.Reading.{spot_is_lem, cell-small}
 use Rattle.run_footprint.proofs.Regions.{only-word, only-tables}
 use Rattle.run_footprint.proofs.Cells.{SameObjects, cell-kept, fits_kept}
-use Rattle.run_steps.specs.declared.Turn as Full
 use Rattle.run_steps.specs.States as States
 use Rattle.run_steps.specs.States.{most_count}
 use Rattle.run_steps.proofs.Moves.{readable, row_fits}
 use Rattle.lean_heap.specs.declared.Counters.{Counters}
 use Rattle.lean_heap.specs.declared.Stop.{Stop}
-use Rattle.lean_heap.specs.declared.Turn.{Turn}
+use Rattle.std.specs.Prelude.{Some, Ok, Err}
+use Rattle.lean_heap.specs.Ghosts.{Turn}
 use Rattle.lean_heap.specs.Ghosts.{Bare, Stands, Unstuck, Follows, Does, CanStep, There, cell_in, value_in, Readable, full, stop_of}
 use Rattle.lean_heap.proofs.Bares.{bare-tables, bare-class, bare-first, bare-variable, bare-value}
 use Rattle.lean_heap.proofs.Finding.{there-cell}
@@ -137,8 +137,8 @@ module _ {w : List ℕ} {c : Counters} {m : Config} (S : Stands w c m) where
 
   pub on-as :
       {v' w' : List ℕ} {d : Counters} (h hs : ℕ) → d.base ≡ frame_at (d.frames - 1) →
-      States.Does S.ghost (full c S.holder S.holders) v' (Full.Turn.On (full d h hs)) (step whole_heap (program_in S.ghost)) →
-      Bare v' w' → Follows w' c (Turn.On d) m (step whole_heap (program_in w) m)
+      States.Does S.ghost (full c S.holder S.holders) v' (Ok (Some (full d h hs))) (step whole_heap (program_in S.ghost)) →
+      Bare v' w' → Follows w' c (Ok (Some d)) m (step whole_heap (program_in w) m)
   on-as {v'} {w'} {d} h hs b D B =
       let N = D.follows m S.represents in
       record {
@@ -151,8 +151,8 @@ module _ {w : List ℕ} {c : Counters} {m : Config} (S : Stands w c m) where
   -- a stop leaves the lean machine's stores as they are
   pub stop-as :
       {v' : List ℕ} {f : Fault} (s : Stop) → stop_of s ≡ Views.stop_of f →
-      States.Does S.ghost (full c S.holder S.holders) v' (Full.Turn.Stopped f) (step whole_heap (program_in S.ghost)) →
-      Follows w c (Turn.Stopped s) m (step whole_heap (program_in w) m)
+      States.Does S.ghost (full c S.holder S.holders) v' (Err f) (step whole_heap (program_in S.ghost)) →
+      Follows w c (Err s) m (step whole_heap (program_in w) m)
   stop-as s e D = (step_is _ (D.follows m S.represents).0 ∙ ap stop (sym e), S)
 
   -- READING
@@ -206,18 +206,21 @@ module _ {w : List ℕ} {c : Counters} {m : Config} (S : Stands w c m) where
       ((k.0, k.1, T), ap (value_in w _) (sym q) ∙ (ap (cell_value w) i ∙ (bare-value S.bare j h ∙ ok-inj t)))
 
 -- ANSWERS OF THE CODE, known
+pub does-answer : {w w' : List ℕ} {c : Counters} {r t : Turn} → r ≡ t → Does w c w' r → Does w c w' t
+does-answer {w} {w'} {c} {r} {t} e D = subst (λ (u : Turn). Does w c w' u) e D
+
 pub does-on :
     {w w' w'' : List ℕ} {c d d' : Counters} → w' ≡ w'' → d ≡ d' → SameTables w w'' →
-    ((m : Config) → Stands w c m → Unstuck (step whole_heap (program_in w) m) → Follows w'' c (Turn.On d') m (step whole_heap (program_in w) m)) →
-    Does w c w' (Turn.On d)
+    ((m : Config) → Stands w c m → Unstuck (step whole_heap (program_in w) m) → Follows w'' c (Ok (Some d')) m (step whole_heap (program_in w) m)) →
+    Does w c w' (Ok (Some d))
 does-on {w} {w'} {w''} {c} {d} {d'} e q t h =
-    subst (λ (u : List ℕ). Does w c u (Turn.On d)) (sym e)
-    (subst (λ (g : Counters). Does w c w'' (Turn.On g)) (sym q) (record { tables = t; follows = h }))
+    subst (λ (u : List ℕ). Does w c u (Ok (Some d))) (sym e)
+    (subst (λ (g : Counters). Does w c w'' (Ok (Some g))) (sym q) (record { tables = t; follows = h }))
 
 pub does-stop :
     {w : List ℕ} {c : Counters} (s : Stop) →
-    ((m : Config) → Stands w c m → Unstuck (step whole_heap (program_in w) m) → Follows w c (Turn.Stopped s) m (step whole_heap (program_in w) m)) →
-    Does w c w (Turn.Stopped s)
+    ((m : Config) → Stands w c m → Unstuck (step whole_heap (program_in w) m) → Follows w c (Err s) m (step whole_heap (program_in w) m)) →
+    Does w c w (Err s)
 does-stop {w} s h = record { tables = same_refl w; follows = h }
 
 -- WHAT A MACHINE HAS THAT CAN STEP

@@ -1,6 +1,6 @@
 -- The lean machine's stores: which state they stand for. They are the full machine's with what says who holds left out; the full stores are a
 -- ghost, of which the code has no byte.
-use Rattle.std.specs.Prelude.{◌≡◌, List, ◌⊎◌, ℕ, ◌+◌, ◌-◌, ◌≤◌, ◌<◌, length}
+use Rattle.std.specs.Prelude.{◌≡◌, List, ◌⊎◌, ℕ, ◌+◌, ◌-◌, ◌≤◌, ◌<◌, length, Option, Some, None, Result, Ok, Err}
 use Rattle.std.proofs.Math.Option.{some}
 use Rattle.rules.specs.Limits.{heap_objects, heap_fields}
 use Rattle.rules.specs.Answers as Answers
@@ -20,7 +20,6 @@ use Rattle.run_heap.specs.Views.{frame_holder, frame_row, frame_method, frame_at
 use Rattle.run_steps.specs.States.{Represents, most_count}
 use Rattle.lean_heap.specs.declared.Counters.{Counters}
 use Rattle.lean_heap.specs.declared.Stop.{Stop}
-use Rattle.lean_heap.specs.declared.Turn.{Turn}
 
 -- THE GHOST
 
@@ -79,10 +78,14 @@ pub record Goes (w : List ℕ) (c d : Counters) (s : Step) : Type 0 where
   pub stands : Stands w d next
   pub counted : d.steps ≡ c.steps + 1
 
+-- what became of a step: on to the next, or none after main's `end`; or why it is not done
+abbrev pub Turn : Type 0
+Turn = Result (Option Counters) Stop
+
 abbrev pub Follows : List ℕ → Counters → Turn → Config → Step → Type 0
-Follows w c (Turn.On d) m s = Goes w c d s
-Follows w c (Turn.Stopped r) m s = (s ≡ stop (stop_of r)) × Stands w c m
-Follows w c Turn.Done m s = (s ≡ done) × Stands w c m
+Follows w c (Ok (Some d)) m s = Goes w c d s
+Follows w c (Err r) m s = (s ≡ stop (stop_of r)) × Stands w c m
+Follows w c (Ok None) m s = (s ≡ done) × Stands w c m
 
 -- a step by the code from w and c, which leaves w' and answers r, is the full machine's in every state that w and c stand for and in which
 -- that is not stuck

@@ -32,16 +32,8 @@ pub enum Stop {
     Overflow,
 }
 
-// What became of a step: on to the next, not done, or main's `end` done.
-#[derive(Clone, Copy)]
-pub enum Turn {
-    On(Counters),
-    Stopped(Stop),
-    Done,
-}
-
-// Where an object keeps the number of its first cell, after its class.
-const FIRST_AT: usize = 2;
+// What became of a step: on to the next, or none after main's `end`; or why it is not done.
+pub type Turn = Result<Option<Counters>, Stop>;
 
 // Where the running frame stands.
 pub fn base_of(c: Counters) -> usize
@@ -59,7 +51,7 @@ pub fn cell_of(work: &[u8], o: u32, f: usize) -> usize
     let i = (o - 1) as usize;
     let at = Layout::OBJECTS + i * Layout::OBJECT_BYTES;
     let c = tables::byte_at(work, at);
-    let first = tables::half_at(work, at + FIRST_AT);
+    let first = tables::half_at(work, at + Stores::FIRST_AT);
     first + tables::place_at(work, c, f)
 }
 

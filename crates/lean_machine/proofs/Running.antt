@@ -27,12 +27,11 @@ use Rattle.machine.specs.Runs.{words, main_values}
 use Rattle.machine.proofs.Running.{begins, begin-tables, ends-are}
 use Rattle.lean_heap.specs.declared.Counters.{Counters}
 use Rattle.lean_heap.specs.declared.Stop.{Stop}
-use Rattle.lean_heap.specs.declared.Turn.{Turn}
+use Rattle.std.specs.Prelude.{Some, None, Ok, Err}
 use Rattle.lean_heap.specs.Ghosts.{Stands, Unstuck, Goes, Does, CanStep, stop_of}
 use Rattle.lean_heap.proofs.Following.{ghost-tables, tables, row_small, fits, kind-is}
-use Rattle.lean_machine.specs.declared.Ending.{Ending}
-use Rattle.lean_machine.specs.declared.Ran.{Ran}
-use Rattle.lean_machine.specs.Runs.{Accepted, fresh, ending_in, RanAs}
+use Rattle.run_steps.specs.declared.ends.Ending.{Ending}
+use Rattle.lean_machine.specs.Runs.{Ran, Accepted, fresh, ending_in, RanAs}
 
 -- MAIN'S VALUES, which the lean stores have as the ghost has them
 words_same : (v w : List ℕ) (a b i n : ℕ) → Kept a b v w → a ≤ i → i + n * 4 ≤ b → words w i n ≡ words v i n
@@ -106,10 +105,6 @@ from-tables {w} {w₀} {w'} {k} {r} t p A =
       outcome = ap (λ (P : Program). Lean.outcome_of (Lean.run_program whole_heap P k)) (sym b) ∙ B.outcome;
     }
 
--- a step's answer, known
-pub does-answer : {w w' : List ℕ} {c : Counters} {r t : Turn} → r ≡ t → Does w c w' r → Does w c w' t
-does-answer {w} {w'} {c} {r} {t} e D = subst (λ (u : Turn). Does w c w' u) e D
-
 -- a run that is not stuck takes no stuck step
 first-unstuck :
     (P : Program) (s : Step) (n : ℕ) (m : Config) (f : Config → Outcome) → EndsUnstuck (go_on P s n m f).ending → Unstuck s
@@ -143,7 +138,7 @@ module _ {w₀ w : List ℕ} {k : ℕ} {c : Counters} (G : Going w₀ w k c) whe
   pub at-row : (length w ≡ 65536) × (c.row < most_statements)
   at-row = ((tables G.stands).size, row_small G.stands)
 
-  pub goes_on : {w' : List ℕ} {d : Counters} → c.steps < k → Does w c w' (Turn.On d) → Going w₀ w' k d
+  pub goes_on : {w' : List ℕ} {d : Counters} → c.steps < k → Does w c w' (Ok (Some d)) → Going w₀ w' k d
   unfolding go_on
   goes_on {w'} {d} l D =
       let N : Goes w' c d (step whole_heap (program_in w) G.state) = D.follows G.state G.stands (unstuck l) in
@@ -162,14 +157,14 @@ module _ {w₀ w : List ℕ} {k : ℕ} {c : Counters} (G : Going w₀ w k c) whe
             ∙ (sym (one l) ∙ G.is-run)));
       }
 
-  pub goes-less : {w' : List ℕ} {d : Counters} → c.steps < k → Does w c w' (Turn.On d) → k - d.steps < k - c.steps
+  pub goes-less : {w' : List ℕ} {d : Counters} → c.steps < k → Does w c w' (Ok (Some d)) → k - d.steps < k - c.steps
   goes-less {w'} {d} l D =
       let N : Goes w' c d (step whole_heap (program_in w) G.state) = D.follows G.state G.stands (unstuck l) in
       omega (arith, N.counted)
 
   -- THE END
   ended-as :
-      {w' : List ℕ} (e : Ending) (n : ℕ) (r : Ran) → SameTables w w' → Stands w' c G.state →
+      {w' : List ℕ} (e : Ending Stop) (n : ℕ) (r : Ran) → SameTables w w' → Stands w' c G.state →
       run whole_heap (program_in w₀) (k - c.steps) c.steps G.state ≡ ends (program_in w₀) (Lean.ending_of (ending_in e)) n G.state →
       r.ending ≡ e → r.line ≡ line_at w' c.row → r.steps ≡ n → RanAs w₀ k w' r
   unfolding Lean.outcome_of
@@ -199,7 +194,7 @@ module _ {w₀ w : List ℕ} {k : ℕ} {c : Counters} (G : Going w₀ w k c) whe
       ∙ ap (λ (t : Step). go_on (program_in w₀) t c.steps G.state (λ m'. run whole_heap (program_in w₀) (k - (c.steps + 1)) (suc c.steps) m')) e
 
   pub ends-stopped :
-      {w' : List ℕ} (s : Stop) (r : Ran) → c.steps < k → Does w c w' (Turn.Stopped s) → r.ending ≡ Ending.Stopped s →
+      {w' : List ℕ} (s : Stop) (r : Ran) → c.steps < k → Does w c w' (Err s) → r.ending ≡ Ending.Stopped s →
       r.line ≡ line_at w' c.row → r.steps ≡ c.steps → RanAs w₀ k w' r
   unfolding go_on ending_in Lean.ending_of stop_of
   ends-stopped {w'} s r l D =
@@ -207,7 +202,7 @@ module _ {w₀ w : List ℕ} {k : ℕ} {c : Counters} (G : Going w₀ w k c) whe
       ended-as (Ending.Stopped s) c.steps r D.tables S (at-stop l (stop (stop_of s)) e)
 
   pub ends-finished :
-      {w' : List ℕ} (r : Ran) → c.steps < k → Does w c w' Turn.Done → r.ending ≡ Ending.Finished → r.line ≡ line_at w' c.row →
+      {w' : List ℕ} (r : Ran) → c.steps < k → Does w c w' (Ok None) → r.ending ≡ Ending.Finished → r.line ≡ line_at w' c.row →
       r.steps ≡ c.steps + 1 → RanAs w₀ k w' r
   unfolding go_on ending_in Lean.ending_of
   ends-finished {w'} r l D =

@@ -12,8 +12,9 @@ use Rattle.machine.specs.Runs.{main_values}
 use Rattle.lean_heap.specs.declared.Counters.{Counters}
 use Rattle.tables.specs.Layout.{frames_at}
 use Rattle.lean_heap.specs.Ghosts.{stop_in}
-use Rattle.lean_machine.specs.declared.Ending.{Ending}
-use Rattle.lean_machine.specs.declared.Ran.{Ran}
+use Rattle.run_steps.specs.declared.ends.Ending.{Ending}
+use Rattle.run_steps.specs.declared.ends.Ran as Ends
+use Rattle.lean_heap.specs.declared.Stop.{Stop}
 
 -- the program of an accepted text
 abbrev pub Accepted : Program → Type 0
@@ -23,13 +24,17 @@ Accepted P = WellFormed P × (check_program P ≡ accepted tt)
 abbrev pub fresh : ℕ → Counters
 fresh row = record { objects = 0; fields = 0; frames = 1; base = frames_at; row = row; steps = 0 }
 
-unfoldable pub ending_in : Ending → Lean.Ending
+-- what a run ends with
+abbrev pub Ran : Type 0
+Ran = Ends.Ran Stop
+
+unfoldable pub ending_in : Ending Stop → Lean.Ending
 ending_in Ending.Finished = Lean.Ending.finished
 ending_in Ending.StepsTaken = Lean.Ending.steps_taken
 ending_in (Ending.Stopped s) = Lean.Ending.stopped (stop_in s)
 
 -- the number of document 01 for it
-unfoldable pub number : Ending → ℕ
+unfoldable pub number : Ending Stop → ℕ
 number e = ending_number (Lean.ending_of (ending_in e))
 
 abbrev pub outcome_in : List ℕ → Ran → Lean.Outcome

@@ -1,11 +1,10 @@
 // The lean machine: one step by the kind of its row, and a run of an accepted script.
 #![tactic(auto)]
 
-ghost use Rattle.std.specs.Prelude.{◌≡◌, ◌+◌, ◌<◌, length};
-ghost use Rattle.rules.specs.Limits.{work_bytes, most_statements};
+ghost use Rattle.std.specs.Prelude.{◌≡◌, ◌+◌, ◌<◌};
 ghost use Rattle.rules.specs.Answers.{stop_number};
 ghost use Rattle.tables.specs.Layout.{frame_variables, frames_at};
-ghost use Rattle.tables.specs.Decode.{line_at, main_first, program_in};
+ghost use Rattle.tables.specs.Decode.{main_first, program_in};
 ghost use Rattle.tables.specs.Tables.{Tables};
 ghost use Rattle.run_heap.specs.Views.{fill};
 ghost use Rattle.lean_heap.specs.Ghosts.{CanStep, Does, stop_of};
@@ -14,28 +13,16 @@ ghost use Rattle.lean_machine.specs.Runs.{Accepted, RanAs, fresh, number};
 use lean_heap::{Counters, Stop, Turn};
 use rules::{Kind, Number};
 use run_heap::Stores;
+use run_steps::Ending;
 use tables::Layout;
 
 // The first number past those of the kinds.
 const UNKNOWN: u8 = Kind::LAST + 1;
 
-// How a run ends: 24, 25 and 26 are not among it.
-#[derive(Clone, Copy)]
-pub enum Ending {
-    Finished,
-    StepsTaken,
-    Stopped(Stop),
-}
+// What a run ends with; main's values are in its frame. 24, 25 and 26 are not among how it ends.
+pub type Ran = run_steps::Ran<Stop>;
 
-// What a run ends with; main's values are in its frame.
-#[derive(Clone, Copy)]
-pub struct Ran {
-    pub ending: Ending,
-    pub line: u32,
-    pub steps: u32,
-}
-
-// The number of document 01 for a step that is not done.
+// The number of document 01 for a step that is not done. No From: `u32::from` would not say which number.
 fn stop_number(s: Stop) -> u32
     ensures { result ≡ stop_number (stop_of s) }
 {
@@ -47,7 +34,7 @@ fn stop_number(s: Stop) -> u32
 }
 
 // The number of document 01 for the end of a run.
-pub fn number_of(e: Ending) -> u32
+pub fn number_of(e: Ending<Stop>) -> u32
     ensures { result ≡ number e }
 {
     match e {
@@ -58,6 +45,7 @@ pub fn number_of(e: Ending) -> u32
 }
 
 // "Each statement line is one step": by the kind of the row.
+#[tactic(auto, unfolding(rules::specs::Grammar::statement_number, rules::specs::Grammar::is_computing))]
 fn step(work: &mut [u8], c: Counters) -> Turn
     requires { CanStep work.old c }
     ensures { Does work.old c work.new result }
@@ -78,7 +66,7 @@ fn step(work: &mut [u8], c: Counters) -> Turn
         Kind::OPEN => lean_steps::open_step(work, c),
         Kind::SHUT => lean_steps::pass_step(work, c),
         // No row is of another kind, so that any answer meets the contract.
-        0..=Kind::VAR | UNKNOWN..=u8::MAX => Turn::Done,
+        0..=Kind::VAR | UNKNOWN..=u8::MAX => Ok(None),
     }
 }
 
@@ -99,38 +87,25 @@ fn begin(work: &mut [u8]) -> Counters
     }
 }
 
-// A run that stands at a row.
-fn ended(work: &[u8], row: u32, e: Ending, n: u32) -> Ran
-    requires { (length work.now ≡ work_bytes) × (row < most_statements) }
-    ensures { ((result.ending ≡ e) × (result.line ≡ line_at work.now row)) × (result.steps ≡ n) }
-{
-    let line = tables::line_at(work, row as usize);
-    Ran {
-        ending: e,
-        line: line as u32,
-        steps: n,
-    }
-}
-
 // At most so many steps of the accepted program in the tables: "A run tests 21 before each step"; "A stopped step is not counted".
 pub fn run(work: &mut [u8], steps: u32) -> Ran
     requires { Tables work.old × Accepted (program_in work.old) }
     ensures { RanAs work.old steps work.new result }
 {
     let mut c = begin(work);
+    // Not one loop for both machines: what a step needs and does is said of each machine's own states, and a trait with these and their laws is longer.
     while c.steps < steps {
-        let t = step(work, c);
-        match t {
-            Turn::On(d) => {
+        match step(work, c) {
+            Ok(Some(d)) => {
                 c = d;
             }
-            Turn::Stopped(s) => {
-                return ended(work, c.row, Ending::Stopped(s), c.steps);
+            Err(s) => {
+                return run_steps::ended(work, c.row, Ending::Stopped(s), c.steps);
             }
-            Turn::Done => {
-                return ended(work, c.row, Ending::Finished, c.steps + 1);
+            Ok(None) => {
+                return run_steps::ended(work, c.row, Ending::Finished, c.steps + 1);
             }
         }
     }
-    ended(work, c.row, Ending::StepsTaken, c.steps)
+    run_steps::ended(work, c.row, Ending::StepsTaken, c.steps)
 }

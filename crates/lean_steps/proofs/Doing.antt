@@ -36,7 +36,7 @@ use Rattle.machine.proofs.Stepping as Stepping
 use Rattle.lean_heap.specs.declared.Counters.{Counters}
 use Rattle.rules.specs.Lean as Rules
 use Rattle.lean_heap.specs.declared.Stop as Lean
-use Rattle.lean_heap.specs.declared.Turn.{Turn}
+use Rattle.std.specs.Prelude.{Some, Ok, Err}
 use Rattle.lean_heap.specs.Ghosts.{Bare, Stands, Unstuck, Follows, Does, CanStep, AtKind, There, cell_in, value_in, Readable, full, stepped, stop_of, stop_in}
 use Rattle.lean_heap.proofs.Bares.{word-both, ghost-marked, bare-value}
 use Rattle.lean_heap.proofs.Following.{try_ok, ghost-ready, ghost-size, fits, x-is, y-is, z-is, member_is, first-is, kind-is, target_is, left_is, right_is, atom-kind-is, step_is, on-as, stop-as, variable-is, path-there, read-there, does-on, does-stop, has-frames, x-small, y-small, z-small, word-tables}
@@ -67,7 +67,7 @@ module _ {w : List ℕ} {c : Counters} {m : Config} (S : Stands w c m) where
   -- a step that changes no store
   moves :
       States.NotEnd G M → step whole_heap (program_in w) m ≡ on (with_frame m (advance m.frame)) →
-      Follows w c (Turn.On (stepped c (c.row + 1))) m (step whole_heap (program_in w) m)
+      Follows w c (Ok (Some (stepped c (c.row + 1)))) m (step whole_heap (program_in w) m)
   moves n e =
       record {
         next = with_frame m (advance m.frame);
@@ -88,7 +88,7 @@ module _ {w : List ℕ} {c : Counters} {m : Config} (S : Stands w c m) where
 module _ {w : List ℕ} {c : Counters} (more : c.steps < 4294967295) (m : Config) (S : Stands w c m) (U : Unstuck (step whole_heap (program_in w) m)) where
   asserts :
       AtKind w c Assert ⊎ AtKind w c Join →
-      Follows w c (Turn.On (stepped c (c.row + 1))) m (step whole_heap (program_in w) m)
+      Follows w c (Ok (Some (stepped c (c.row + 1)))) m (step whole_heap (program_in w) m)
   unfolding assert_step took ◌>>=◌ statement_number
   asserts k =
       let k' : States.AtKind (G S) (M S) Assert ⊎ States.AtKind (G S) (M S) Join = ⊎_elim (λ e. inl (kind-is S e)) (λ e. inr (kind-is S e)) k in
@@ -98,7 +98,7 @@ module _ {w : List ℕ} {c : Counters} (more : c.steps < 4294967295) (m : Config
       moves S (λ z. ⊎_elim (λ q. omega (arith, q, z)) (λ q. omega (arith, q, z)) k')
       (step_is S _ (Stepping.assert-is whole_heap k' m S.represents ∙ rw e))
 
-  shuts : AtKind w c Shut → Follows w c (Turn.On (stepped c (c.row + 1))) m (step whole_heap (program_in w) m)
+  shuts : AtKind w c Shut → Follows w c (Ok (Some (stepped c (c.row + 1)))) m (step whole_heap (program_in w) m)
   unfolding shut_step took ◌>>=◌ statement_number
   shuts k =
       let k' : States.AtKind (G S) (M S) Shut = kind-is S k in
@@ -110,7 +110,7 @@ module _ {w : List ℕ} {c : Counters} (more : c.steps < 4294967295) (m : Config
       let (p, e₃, _) = try_ok (locate m.frame A 2 x f) _ (λ p. ok (with_frame m (advance m.frame))) (locate-only m.frame A 2 x f) u₂ in
       moves S (λ z. omega (arith, k', z)) (step_is S _ (Stepping.shut-is whole_heap k' m S.represents ∙ rw (e₁, e₂, e₃)))
 
-  releases : AtKind w c Release → Follows w c (Turn.On (stepped c (c.row + 1))) m (step whole_heap (program_in w) m)
+  releases : AtKind w c Release → Follows w c (Ok (Some (stepped c (c.row + 1)))) m (step whole_heap (program_in w) m)
   unfolding release_step statement_number
   releases k =
       let k' : States.AtKind (G S) (M S) Release = kind-is S k in
@@ -123,14 +123,14 @@ module _ {w : List ℕ} {c : Counters} (more : c.steps < 4294967295) (m : Config
       (Stepping.does-as (Stepping.release-is whole_heap k') (Steps.release-does g ss (λ z. omega (arith, k', z)) t refl refl))
       (ghost-marked (spread (G S) c.objects ss) S.holder 0 (Steps.release-fit g ss (view_of (M S)) refl t) S.bare)
 
-pub pass-does : {w : List ℕ} {c : Counters} → CanStep w c → Passes w c → {d : Counters} → d ≡ stepped c (c.row + 1) → Does w c w (Turn.On d)
+pub pass-does : {w : List ℕ} {c : Counters} → CanStep w c → Passes w c → {d : Counters} → d ≡ stepped c (c.row + 1) → Does w c w (Ok (Some d))
 pass-does {w} {c} R (inl k) q = does-on refl q (same_refl w) (λ m S U. asserts R.more m S U k)
 pass-does {w} {c} R (inr (inl k)) q = does-on refl q (same_refl w) (λ m S U. releases R.more m S U k)
 pass-does {w} {c} R (inr (inr k)) q = does-on refl q (same_refl w) (λ m S U. shuts R.more m S U k)
 
 -- `else` and `again`
 pub jump-does :
-    {w : List ℕ} {c : Counters} → CanStep w c → Jumps w c → (i : ℕ) {d : Counters} → i ≡ target_at w c.row → d ≡ stepped c i → Does w c w (Turn.On d)
+    {w : List ℕ} {c : Counters} → CanStep w c → Jumps w c → (i : ℕ) {d : Counters} → i ≡ target_at w c.row → d ≡ stepped c i → Does w c w (Ok (Some d))
 jump-does {w} {c} R k i ei q =
     does-on refl (q ∙ ap (stepped c) ei) (same_refl w)
     (λ m S U.
@@ -252,7 +252,7 @@ module _ {w : List ℕ} {c : Counters} {a : ℕ} (R : CanStep w c) (chooses : Ch
     compares : t ≡ compared (rel_of (byte_at w (atom_place a))) l r
     compares = et ∙ ap (λ (i : ℕ). compared (rel_of i) l r) en
 
-    pub condition-holds : t ≡ true → {d : Counters} → d ≡ stepped c (c.row + 1) → Does w c w (Turn.On d)
+    pub condition-holds : t ≡ true → {d : Counters} → d ≡ stepped c (c.row + 1) → Does w c w (Ok (Some d))
     condition-holds h q =
         does-on refl q (same_refl w)
         (λ m S U.
@@ -263,7 +263,7 @@ module _ {w : List ℕ} {c : Counters} {a : ℕ} (R : CanStep w c) (chooses : Ch
         (tested a R.more m S U C b l r el er t eb ml mr vl vr compares ∙ ap ok h) refl))
         S.bare)
 
-    pub condition-fails : t ≡ false → (i : ℕ) {d : Counters} → i ≡ target_at w c.row → d ≡ stepped c i → Does w c w (Turn.On d)
+    pub condition-fails : t ≡ false → (i : ℕ) {d : Counters} → i ≡ target_at w c.row → d ≡ stepped c i → Does w c w (Ok (Some d))
     condition-fails h i ei q =
         does-on refl (q ∙ ap (stepped c) ei) (same_refl w)
         (λ m S U.
@@ -328,7 +328,7 @@ module _ {w : List ℕ} {c : Counters} (R : CanStep w c) (k : AtKind w c Let) (a
 
   pub let-does :
       (x n : ℕ) {w' : List ℕ} {d : Counters} → n ≡ value_in w b (meaning e) → n < 4294967296 → x ≡ x_at w c.row →
-      w' ≡ put_word w (b + x * 4) n → d ≡ stepped c (c.row + 1) → Does w c w' (Turn.On d)
+      w' ≡ put_word w (b + x * 4) n → d ≡ stepped c (c.row + 1) → Does w c w' (Ok (Some d))
   let-does x n en ln ex p r =
       does-on p r (word-tables R b x n eb (x-small R ex))
       (λ m S U.
@@ -398,7 +398,7 @@ module _ {w : List ℕ} {c : Counters} (R : CanStep w c) (k : AtKind w c Open) (
 
   pub open-does :
       (y n : ℕ) {w' : List ℕ} {d : Counters} → n ≡ cell_value w (cell_in w (variable_at w b x) f) → n < 4294967296 → y ≡ x_at w c.row →
-      w' ≡ put_word w (b + y * 4) n → d ≡ stepped c (c.row + 1) → Does w c w' (Turn.On d)
+      w' ≡ put_word w (b + y * 4) n → d ≡ stepped c (c.row + 1) → Does w c w' (Ok (Some d))
   open-does y n en ln ey p q =
       does-on p q (word-tables R b y n eb (x-small R ey))
       (λ m S U.
@@ -423,7 +423,7 @@ module _ {w : List ℕ} {c : Counters} (R : CanStep w c) (t : T (is_computing (k
 
   pub compute-does :
       (x n : ℕ) {w' : List ℕ} {d : Counters} → x ≡ x_at w c.row → n < 4294967296 → computed (operation_of k) n₁ n₂ ≡ ok n →
-      w' ≡ put_word w (b + x * 4) n → d ≡ stepped c (c.row + 1) → Does w c w' (Turn.On d)
+      w' ≡ put_word w (b + x * 4) n → d ≡ stepped c (c.row + 1) → Does w c w' (Ok (Some d))
   compute-does x n ex ln e p q =
       does-on p q (word-tables R b x n eb (x-small R ex))
       (λ m S U.
@@ -433,7 +433,7 @@ module _ {w : List ℕ} {c : Counters} (R : CanStep w c) (t : T (is_computing (k
       (ghost-variable S y n₁ (y-small R ey) e₁) (ghost-variable S z n₂ (z-small R ez) e₂) x n (ex ∙ x-is S) ln e refl refl))
       (word-bare R S b x n eb (x-small R ex)))
 
-  pub compute-stops : computed (operation_of k) n₁ n₂ ≡ no overflow → Does w c w (Turn.Stopped Lean.Stop.Overflow)
+  pub compute-stops : computed (operation_of k) n₁ n₂ ≡ no overflow → Does w c w (Err Lean.Stop.Overflow)
   unfolding stop_of stop_in Rules.stop_of Views.stop_of
   compute-stops e =
       does-stop Lean.Stop.Overflow
@@ -471,7 +471,7 @@ module _ {w : List ℕ} {c : Counters} (R : CanStep w c) (k : AtKind w c Set) (b
 
   pub set_does :
       (o j y n : ℕ) {w' : List ℕ} {d : Counters} → o ≡ variable_at w b x → j ≡ cell_in w o f → j < heap_fields → y ≡ y_at w c.row →
-      n ≡ variable_at w b y → n < 4294967296 → w' ≡ put_word w (values_at + j * 4) n → d ≡ stepped c (c.row + 1) → Does w c w' (Turn.On d)
+      n ≡ variable_at w b y → n < 4294967296 → w' ≡ put_word w (values_at + j * 4) n → d ≡ stepped c (c.row + 1) → Does w c w' (Ok (Some d))
   set_does o j y n eo ej lj ey en ln p q =
       does-on p q (only-tables (only-word values_at holders_at w (values_at + j * 4) n (omega arith) (omega arith)) (omega arith))
       (λ m S U.

@@ -4,23 +4,21 @@
 ghost use Rattle.std.specs.Prelude.{◌≡◌, ◌≤◌, ◌<◌, T, length};
 ghost use Rattle.rules.specs.Limits.{work_bytes, most_statements};
 ghost use Rattle.rules.specs.Grammar.{Set, Let, Open, loop_kind, is_computing};
-ghost use Rattle.rules.specs.Machine.{compared};
-ghost use Rattle.tables.specs.Decode.{kind_at, first_atom_at, rel_of};
+ghost use Rattle.tables.specs.Decode.{kind_at, first_atom_at};
 ghost use Rattle.lean_heap.specs.Ghosts.{CanStep, AtKind, Does};
 ghost use Rattle.lean_steps.specs.Rows.{Passes, Jumps, Chooses, condition_of};
 
 use lean_heap::{Counters, Stop, Turn};
 use rules::Kind;
 use run_heap::Stores;
-use run_numbers::Computed;
-use tables::{AtomKind, Layout};
+use tables::Layout;
 
 // `assert`, `join`, `release` and `shut`: on to the next line.
 pub fn pass_step(work: &[u8], c: Counters) -> Turn
     requires { CanStep work.now c × Passes work.now c }
     ensures { Does work.now c work.now result }
 {
-    Turn::On(lean_heap::next(c, c.row + 1))
+    Ok(Some(lean_heap::next(c, c.row + 1)))
 }
 
 // `else`, "on to its `join`", and `again`, "a step back to" its `loop`.
@@ -29,17 +27,7 @@ pub fn jump_step(work: &[u8], c: Counters) -> Turn
     ensures { Does work.now c work.now result }
 {
     let row = c.row as usize;
-    Turn::On(lean_heap::next(c, tables::target_at(work, row) as u32))
-}
-
-// Whether l and r compare as the kind of an atom says: `eq`, else `ne`.
-fn compare(kind: usize, l: u32, r: u32) -> bool
-    ensures { result ≡ compared (rel_of kind) l r }
-{
-    if kind == AtomKind::EQ {
-        return l == r;
-    }
-    l != r
+    Ok(Some(lean_heap::next(c, tables::target_at(work, row) as u32)))
 }
 
 // The condition: of an `if` its atom, of a `loop` the one before its invariant.
@@ -65,10 +53,10 @@ pub fn choose_step(work: &[u8], c: Counters) -> Turn
     let a = condition_at(work, row);
     let l = lean_heap::value(work, b, tables::left_at(work, a));
     let r = lean_heap::value(work, b, tables::right_at(work, a));
-    if compare(tables::atom_kind(work, a), l, r) {
-        return Turn::On(lean_heap::next(c, c.row + 1));
+    if run_footprint::compare(tables::atom_kind(work, a), l, r) {
+        return Ok(Some(lean_heap::next(c, c.row + 1)));
     }
-    Turn::On(lean_heap::next(c, tables::target_at(work, row) as u32))
+    Ok(Some(lean_heap::next(c, tables::target_at(work, row) as u32)))
 }
 
 // `let`.
@@ -82,7 +70,7 @@ pub fn let_step(work: &mut [u8], c: Counters) -> Turn
     let n = lean_heap::value(work, b, tables::right_at(work, a));
     let x = tables::x_at(work, row);
     tables::put_word(work, b + x * Stores::WORD_BYTES, n);
-    Turn::On(lean_heap::next(c, c.row + 1))
+    Ok(Some(lean_heap::next(c, c.row + 1)))
 }
 
 // `open y x f`: "y becomes `x.f`".
@@ -97,7 +85,7 @@ pub fn open_step(work: &mut [u8], c: Counters) -> Turn
     let n = lean_heap::path_value(work, b, x, f);
     let y = tables::x_at(work, row);
     tables::put_word(work, b + y * Stores::WORD_BYTES, n);
-    Turn::On(lean_heap::next(c, c.row + 1))
+    Ok(Some(lean_heap::next(c, c.row + 1)))
 }
 
 // `add` and `sub`, by the kind of the row. The caller names the kind, so that the compiler makes one step for each.
@@ -109,14 +97,10 @@ pub fn compute_step(work: &mut [u8], c: Counters, kind: u8) -> Turn
     let b = lean_heap::base_of(c);
     let y = run_heap::variable(work, b, tables::y_at(work, row));
     let z = run_heap::variable(work, b, tables::z_at(work, row));
-    match run_numbers::compute(kind, y, z) {
-        Computed::Value(n) => {
-            let x = tables::x_at(work, row);
-            tables::put_word(work, b + x * Stores::WORD_BYTES, n);
-            Turn::On(lean_heap::next(c, c.row + 1))
-        }
-        Computed::Overflow => Turn::Stopped(Stop::Overflow),
-    }
+    let n = run_numbers::compute(kind, y, z).ok_or(Stop::Overflow)?;
+    let x = tables::x_at(work, row);
+    tables::put_word(work, b + x * Stores::WORD_BYTES, n);
+    Ok(Some(lean_heap::next(c, c.row + 1)))
 }
 
 // `set`.
@@ -133,5 +117,5 @@ pub fn set_step(work: &mut [u8], c: Counters) -> Turn
     let y = tables::y_at(work, row);
     let n = run_heap::variable(work, b, y);
     tables::put_word(work, Layout::VALUES + k * Stores::WORD_BYTES, n);
-    Turn::On(lean_heap::next(c, c.row + 1))
+    Ok(Some(lean_heap::next(c, c.row + 1)))
 }

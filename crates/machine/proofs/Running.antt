@@ -22,12 +22,11 @@ use Rattle.tables.specs.Stores.{SameTables}
 use Rattle.tables.proofs.BytesRead.{same-trans, same_refl}
 use Rattle.tables.proofs.Decoding.{tables-same, rows-count-same, program-same}
 use Rattle.run_heap.specs.declared.Fault.{Fault}
-use Rattle.run_steps.specs.declared.Turn.{Turn}
-use Rattle.machine.specs.declared.Ending.{Ending}
-use Rattle.machine.specs.declared.Ran.{Ran}
+use Rattle.std.specs.Prelude.{Some, None, Ok, Err}
+use Rattle.run_steps.specs.declared.ends.Ending.{Ending}
 use Rattle.run_heap.specs.Views.{frame_at, variable_at, cell_of, halves_in, halves_of, fill, frame_holder}
 use Rattle.run_steps.specs.States.{FrameIs, CallersAre, Represents, Goes, Does, CanStep}
-use Rattle.machine.specs.Runs.{ending_of, words, main_values, RanAs}
+use Rattle.machine.specs.Runs.{Ran, ending_of, words, main_values, RanAs}
 use Rattle.run_heap.proofs.Reading.{cell-null, cell-beyond, cell-placed}
 use Rattle.run_footprint.proofs.Regions.{only-fill, only-tables, fill-word}
 use Rattle.run_returns.proofs.Returning.{row-of}
@@ -180,11 +179,6 @@ from-tables {room} {w} {w₀} {w'} {k} {r} t p A =
           ap (λ (P : Program). run_program room P k) (sym (program-same w (fill w frames_at frame_variables 0) (begin-tables w t) t)) ∙ B.outcome;
     }
 
--- a step's answer, known
-pub does-answer :
-    {w w' : List ℕ} {c : Machine} {r t : Turn} {f : Config → Step} → r ≡ t → Does w c w' r f → Does w c w' t f
-does-answer {w} {w'} {c} {r} {t} {f} e D = subst (λ (u : Turn). Does w c w' u f) e D
-
 module _ {room : Room} {w₀ w : List ℕ} {k : ℕ} {c : Machine} (G : Going room w₀ w k c) where
   program-is : program_in w ≡ program_in w₀
   program-is = program-same w₀ w G.same G.tables
@@ -202,7 +196,7 @@ module _ {room : Room} {w₀ w : List ℕ} {k : ℕ} {c : Machine} (G : Going ro
   one l = let e : k - c.steps ≡ suc (k - (c.steps + 1)) = omega arith in rw (e, program-is)
 
   pub goes_on :
-      {w' : List ℕ} {d : Machine} → c.steps < k → Does w c w' (Turn.On d) (step room (program_in w)) → Going room w₀ w' k d
+      {w' : List ℕ} {d : Machine} → c.steps < k → Does w c w' (Ok (Some d)) (step room (program_in w)) → Going room w₀ w' k d
   unfolding go_on
   goes_on {w'} {d} l D =
       let N : Goes w' c d (step room (program_in w) G.state) = D.follows G.state G.represents in
@@ -221,13 +215,13 @@ module _ {room : Room} {w₀ w : List ℕ} {k : ℕ} {c : Machine} (G : Going ro
       }
 
   pub goes-less :
-      {w' : List ℕ} {d : Machine} → c.steps < k → Does w c w' (Turn.On d) (step room (program_in w)) → k - d.steps < k - c.steps
+      {w' : List ℕ} {d : Machine} → c.steps < k → Does w c w' (Ok (Some d)) (step room (program_in w)) → k - d.steps < k - c.steps
   goes-less {w'} {d} l D =
       let N : Goes w' c d (step room (program_in w) G.state) = D.follows G.state G.represents in
       omega (arith, N.counted)
 
   ended-as :
-      {w' : List ℕ} (e : Ending) (n : ℕ) (r : Ran) → SameTables w w' → Represents w' c G.state →
+      {w' : List ℕ} (e : Ending Fault) (n : ℕ) (r : Ran) → SameTables w w' → Represents w' c G.state →
       run room (program_in w₀) (k - c.steps) c.steps G.state ≡ ends (program_in w₀) (ending_of e) n G.state → r.ending ≡ e →
       r.line ≡ line_at w' c.row → r.steps ≡ n → RanAs room w₀ k w' r
   ended-as {w'} e n r t R q re rl rs =
@@ -246,7 +240,7 @@ module _ {room : Room} {w₀ w : List ℕ} {k : ℕ} {c : Machine} (G : Going ro
       (let e : k - c.steps ≡ 0 = omega arith in rw e)
 
   pub ends-stopped :
-      {w' : List ℕ} (f : Fault) (r : Ran) → c.steps < k → Does w c w' (Turn.Stopped f) (step room (program_in w)) →
+      {w' : List ℕ} (f : Fault) (r : Ran) → c.steps < k → Does w c w' (Err f) (step room (program_in w)) →
       r.ending ≡ Ending.Stopped f → r.line ≡ line_at w' c.row → r.steps ≡ c.steps → RanAs room w₀ k w' r
   unfolding go_on ending_of
   ends-stopped {w'} f r l D =
@@ -255,7 +249,7 @@ module _ {room : Room} {w₀ w : List ℕ} {k : ℕ} {c : Machine} (G : Going ro
       (one l ∙ ap (λ (t : Step). go_on (program_in w₀) t c.steps G.state (λ m'. run room (program_in w₀) (k - (c.steps + 1)) (suc c.steps) m')) s)
 
   pub ends-finished :
-      {w' : List ℕ} (r : Ran) → c.steps < k → Does w c w' Turn.Done (step room (program_in w)) →
+      {w' : List ℕ} (r : Ran) → c.steps < k → Does w c w' (Ok None) (step room (program_in w)) →
       r.ending ≡ Ending.Finished → r.line ≡ line_at w' c.row → r.steps ≡ c.steps + 1 → RanAs room w₀ k w' r
   unfolding go_on ending_of
   ends-finished {w'} r l D =

@@ -13,7 +13,7 @@ use Rattle.rules.proofs.Lists.{decide_eq}
 use Rattle.tables.specs.Decode.{row_at, operands_at, stmt_at, kind_at, member_at, program_in}
 use Rattle.tables.proofs.Rows.{method-get, class-get}
 use Rattle.tables.proofs.Statements.{set-means, let-means, new-means, call-means, return-means, assert-means, release-means, if-means, else-means, join-means, loop-means, again-means, open-means, shut-means, end-means, compute-means}
-use Rattle.run_steps.specs.declared.Turn.{Turn}
+use Rattle.run_steps.specs.States.{Turn}
 use Rattle.run_steps.specs.States.{Represents, Follows, Does, CanStep, AtKind, Jumps, set_here, let_here, compute_here, assert_here, release_here, open_here, shut_here, if_here, loop_here, jump_here}
 use Rattle.run_returns.proofs.Returning.{row-of}
 use Rattle.run_steps.proofs.Doing.{fits}

@@ -9,12 +9,16 @@ use Rattle.tables.specs.Layout.{frames_at}
 use Rattle.tables.specs.Decode.{word_at, program_in}
 use Rattle.tables.specs.Stores.{SameTables}
 use Rattle.run_heap.specs.declared.Fault.{Fault}
-use Rattle.machine.specs.declared.Ending.{Ending}
-use Rattle.machine.specs.declared.Ran.{Ran}
+use Rattle.run_steps.specs.declared.ends.Ending.{Ending}
+use Rattle.run_steps.specs.declared.ends.Ran as Ends
 use Rattle.run_heap.specs.Views.{word_size, stop_of}
 
--- how a run ends
-unfoldable pub ending_of : Ending → Answers.Ending
+-- what a run ends with
+abbrev pub Ran : Type 0
+Ran = Ends.Ran Fault
+
+-- how it ends
+unfoldable pub ending_of : Ending Fault → Answers.Ending
 ending_of Ending.Finished = finished
 ending_of Ending.StepsTaken = steps_taken
 ending_of (Ending.Stopped f) = stopped (stop_of f)
@@ -24,7 +28,7 @@ unfoldable pub fault_number : Fault → ℕ
 fault_number f = stop_number (stop_of f)
 
 -- "main's `end` done", "allowed steps taken", or why the run stopped
-unfoldable pub number : Ending → ℕ
+unfoldable pub number : Ending Fault → ℕ
 number e = ending_number (ending_of e)
 
 -- n words from i on

@@ -1,12 +1,12 @@
 // One step by the kind of its row, and a run: at most so many steps from the empty heap and main's frame.
 #![tactic(auto)]
 
-ghost use Rattle.std.specs.Prelude.{◌≡◌, ◌+◌, ◌≤◌, ◌<◌, length};
-ghost use Rattle.rules.specs.Limits.{work_bytes, most_statements, heap_objects, heap_fields};
+ghost use Rattle.std.specs.Prelude.{◌≡◌, ◌+◌, ◌≤◌, ◌<◌};
+ghost use Rattle.rules.specs.Limits.{heap_objects, heap_fields};
 ghost use Rattle.run_steps.specs.States.{CanStep, Does};
 ghost use Rattle.rules.specs.Counters.{fresh_machine};
 ghost use Rattle.tables.specs.Layout.{frame_variables, frames_at};
-ghost use Rattle.tables.specs.Decode.{line_at, main_first, program_in};
+ghost use Rattle.tables.specs.Decode.{main_first, program_in};
 ghost use Rattle.tables.specs.Tables.{Tables};
 ghost use Rattle.machine.specs.Runs.{RanAs, fault_number, number};
 ghost use Rattle.run_heap.specs.Views.{fill};
@@ -14,29 +14,16 @@ ghost use Rattle.rules.specs.Machine.{step as step_of};
 
 use rules::{Kind, Machine, Number};
 use run_heap::{Fault, Stores};
-use run_steps::Turn;
+use run_steps::{Ending, Turn};
 use tables::Layout;
 
 // The first number past those of the kinds.
 const UNKNOWN: u8 = Kind::LAST + 1;
 
-// How a run ends.
-#[derive(Clone, Copy)]
-pub enum Ending {
-    Finished,
-    StepsTaken,
-    Stopped(Fault),
-}
+// What a run ends with; main's values are in its frame.
+pub type Ran = run_steps::Ran<Fault>;
 
-// What a run ends with; main's values are in its frame, from byte FRAMES + 8 of the work area on.
-#[derive(Clone, Copy)]
-pub struct Ran {
-    pub ending: Ending,
-    pub line: u32,
-    pub steps: u32,
-}
-
-// The number of document 01 for a step that is not done.
+// The number of document 01 for a step that is not done. No From: `u32::from` would not say which number.
 fn fault_number(f: Fault) -> u32
     ensures { result ≡ fault_number f }
 {
@@ -51,7 +38,7 @@ fn fault_number(f: Fault) -> u32
 }
 
 // The number of document 01 for the end of a run.
-pub fn number_of(e: Ending) -> u32
+pub fn number_of(e: Ending<Fault>) -> u32
     ensures { result ≡ number e }
 {
     match e {
@@ -62,6 +49,7 @@ pub fn number_of(e: Ending) -> u32
 }
 
 // "Each statement line is one step": by the kind of the row, on a heap with these two limits.
+#[tactic(auto, unfolding(rules::specs::Grammar::statement_number))]
 pub fn step(work: &mut [u8], c: Machine, most_objects: u32, most_fields: u32) -> Turn
     requires { CanStep work.old c × ((most_objects ≤ heap_objects) × (most_fields ≤ heap_fields)) }
     ensures { Does work.old c work.new result (step_of (record { objects = most_objects; fields = most_fields }) (program_in work.old)) }
@@ -82,7 +70,7 @@ pub fn step(work: &mut [u8], c: Machine, most_objects: u32, most_fields: u32) ->
         Kind::SHUT => run_steps::shut_step(work, c),
         Kind::ADD | Kind::SUB => run_steps::compute_step(work, c),
         // No row is of another kind, so that any answer meets the contract.
-        0..=Kind::VAR | UNKNOWN..=u8::MAX => Turn::Done,
+        0..=Kind::VAR | UNKNOWN..=u8::MAX => Ok(None),
     }
 }
 
@@ -96,19 +84,6 @@ fn begin(work: &mut [u8]) -> Machine
     Machine::new(row as u32)
 }
 
-// A run that stands at a row.
-fn ended(work: &[u8], row: u32, e: Ending, n: u32) -> Ran
-    requires { (length work.now ≡ work_bytes) × (row < most_statements) }
-    ensures { ((result.ending ≡ e) × (result.line ≡ line_at work.now row)) × (result.steps ≡ n) }
-{
-    let line = tables::line_at(work, row as usize);
-    Ran {
-        ending: e,
-        line: line as u32,
-        steps: n,
-    }
-}
-
 // At most so many steps of the program in the tables, on a heap with these two limits: "A run tests 21 before each step"; "A stopped
 // step is not counted".
 pub fn run(work: &mut [u8], steps: u32, most_objects: u32, most_fields: u32) -> Ran
@@ -116,19 +91,19 @@ pub fn run(work: &mut [u8], steps: u32, most_objects: u32, most_fields: u32) -> 
     ensures { RanAs (record { objects = most_objects; fields = most_fields }) work.old steps work.new result }
 {
     let mut c = begin(work);
+    // A while: the machine itself counts its steps.
     while c.steps < steps {
-        let t = step(work, c, most_objects, most_fields);
-        match t {
-            Turn::On(d) => {
+        match step(work, c, most_objects, most_fields) {
+            Ok(Some(d)) => {
                 c = d;
             }
-            Turn::Stopped(s) => {
-                return ended(work, c.row, Ending::Stopped(s), c.steps);
+            Err(s) => {
+                return run_steps::ended(work, c.row, Ending::Stopped(s), c.steps);
             }
-            Turn::Done => {
-                return ended(work, c.row, Ending::Finished, c.steps + 1);
+            Ok(None) => {
+                return run_steps::ended(work, c.row, Ending::Finished, c.steps + 1);
             }
         }
     }
-    ended(work, c.row, Ending::StepsTaken, c.steps)
+    run_steps::ended(work, c.row, Ending::StepsTaken, c.steps)
 }

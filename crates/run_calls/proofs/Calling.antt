@@ -23,7 +23,8 @@ use Rattle.tables.specs.Stores.{SameTables}
 use Rattle.tables.proofs.BytesRead.{same-trans}
 use Rattle.tables.proofs.Decoding.{tables-same, rows-count-same, kind-same, methods-count-same, first-row-same, ensures-same, requires-same}
 use Rattle.run_heap.specs.declared.Fault.{Fault}
-use Rattle.run_steps.specs.declared.Turn.{Turn}
+use Rattle.std.specs.Prelude.{Some, None, Ok, Err}
+use Rattle.run_steps.specs.States.{Turn}
 use Rattle.run_heap.specs.Views.{frame_at, variable_at, saved_holder, saved_row, method_of, halves_at, cell_of, halves_in, halves_of, prepared, next_view, stop_of, frame_holder, frame_row, frame_method}
 use Rattle.run_footprint.specs.Footprints.{spread, marked, take_in, SharesFit}
 use Rattle.run_steps.specs.States.{FrameIs, CallerIs, CallersAre, Represents, Follows, Does, CanStep, AtKind}
@@ -299,7 +300,7 @@ module _ {w : List ℕ} {c : Machine} {m : Config} (R : Represents w c m) (y z m
 
   pub call-lacks :
       (s : Fault) → (o ≡ 0 → ⊥) → take_in (prepared w c method o p) (next_view c) (requires_at (prepared w c method o p) method) [] ≡ no (stop_of s) →
-      Follows (prepared w c method o p) c (Turn.Stopped s) m (took (call_step y (method_at w method) z m))
+      Follows (prepared w c method o p) c (Err s) m (took (call_step y (method_at w method) z m))
   unfolding call_step ◌>>=◌
   call-lacks s n e =
       let f = no-footprint (next-sees call_kept call-prepared) _ (stop_of s) requires-ok e in
@@ -310,7 +311,7 @@ module _ {w : List ℕ} {c : Machine} {m : Config} (R : Represents w c m) (y z m
   pub call-full :
       (ss : List ℕ) → (o ≡ 0 → ⊥) → most_frames ≤ c.frames →
       take_in (prepared w c method o p) (next_view c) (requires_at (prepared w c method o p) method) [] ≡ ok ss →
-      Follows (prepared w c method o p) c (Turn.Stopped Fault.FramesFull) m (took (call_step y (method_at w method) z m))
+      Follows (prepared w c method o p) c (Err Fault.FramesFull) m (took (call_step y (method_at w method) z m))
   unfolding call_step ◌>>=◌ check ◌>>◌ stop_of
   call-full ss n l e =
       let (A, f, M) = ok-footprint (next-sees call_kept call-prepared) _ ss requires-ok e in
@@ -327,7 +328,7 @@ module _ {w : List ℕ} {c : Machine} {m : Config} (R : Represents w c m) (y z m
       (ss : List ℕ) → (o ≡ 0 → ⊥) → c.frames < most_frames → kind_at w c.row ≡ statement_number Call → c.steps < 4294967295 →
       take_in (prepared w c method o p) (next_view c) (requires_at (prepared w c method o p) method) [] ≡ ok ss →
       Follows (marked (prepared w c method o p) (spread (prepared w c method o p) c.objects ss) c.holder (c.holders + 1)) c
-      (Turn.On (called c (first_row_at (prepared w c method o p) method))) m (took (call_step y (method_at w method) z m))
+      (Ok (Some (called c (first_row_at (prepared w c method o p) method)))) m (took (call_step y (method_at w method) z m))
   unfolding call_step ◌>>=◌ check ◌>>◌
   call_enters ss n l k h e =
       let (A, f, M) = ok-footprint (next-sees call_kept call-prepared) _ ss requires-ok e in
@@ -390,26 +391,26 @@ module _ {w : List ℕ} {c : Machine} (ready : CanStep w c) (k : AtKind w c Call
 
   stopped-at :
       (w' : List ℕ) (s : Fault) → w' ≡ prepared w c method o p →
-      ((m : Config) → Represents w c m → Follows (prepared w c method o p) c (Turn.Stopped s) m (took (call_step y (method_at w method) z m))) →
-      Does w c w' (Turn.Stopped s) (call_here w c)
+      ((m : Config) → Represents w c m → Follows (prepared w c method o p) c (Err s) m (took (call_step y (method_at w method) z m))) →
+      Does w c w' (Err s) (call_here w c)
   stopped-at w' s q h =
       record {
         tables = subst (SameTables w) (sym q) tables-too;
-        follows = λ m R. follow-as w' (Turn.Stopped s) m (subst (λ u. Follows u c (Turn.Stopped s) m (took (call_step y (method_at w method) z m))) (sym q) (h m R));
+        follows = λ m R. follow-as w' (Err s) m (subst (λ u. Follows u c (Err s) m (took (call_step y (method_at w method) z m))) (sym q) (h m R));
       }
 
   pub calls :
       (w' : List ℕ) (r : Turn) → (o ≡ 0 → ⊥) → Admits (prepared w c method o p) c method w' r →
       Does w c w' r (call_here w c)
-  calls w' (Turn.On d) n (inl (ss, e, (l, q, g))) =
+  calls w' (Ok (Some d)) n (inl (ss, e, (l, q, g))) =
       does-on q g
       (same-trans tables-too
       (only-tables (only-marked (prepared w c method o p) (spread (prepared w c method o p) c.objects ss) c.holder (c.holders + 1) (calling.fit ss e)) (omega arith)))
-      (λ m R. follow-as _ (Turn.On (called c (first_row_at (prepared w c method o p) method))) m (call_enters R y z method o p exists ly lz eo ep lo lp lh ss n l k ready.more e))
-  calls w' (Turn.Stopped f) n (inl (ss, e, (l, q, g))) =
-      subst (λ s. Does w c w' (Turn.Stopped s) (call_here w c)) (sym g)
+      (λ m R. follow-as _ (Ok (Some (called c (first_row_at (prepared w c method o p) method)))) m (call_enters R y z method o p exists ly lz eo ep lo lp lh ss n l k ready.more e))
+  calls w' (Err f) n (inl (ss, e, (l, q, g))) =
+      subst (λ s. Does w c w' (Err s) (call_here w c)) (sym g)
       (stopped-at w' Fault.FramesFull q (λ m R. call-full R y z method o p exists ly lz eo ep lo lp lh ss n l e))
-  calls w' Turn.Done n (inl (ss, e, b)) = absurd b
+  calls w' (Ok None) n (inl (ss, e, b)) = absurd b
   calls w' r n (inr (s, e, g, q)) =
       subst (λ t. Does w c w' t (call_here w c)) (sym g)
       (stopped-at w' s q (λ m R. call-lacks R y z method o p exists ly lz eo ep lo lp lh s n e))
@@ -428,7 +429,7 @@ module _ {w : List ℕ} {c : Machine} (method a n : ℕ) (C : Calling w c method
 pub call-null-does :
     {w : List ℕ} {c : Machine} (ready : CanStep w c) → AtKind w c Call → (y o : ℕ) → y ≡ y_at w c.row →
     o ≡ variable_at w (frame_at (c.frames - 1)) y → o ≡ 0 →
-    Does w c w (Turn.Stopped Fault.Null) (call_here w c)
+    Does w c w (Err Fault.Null) (call_here w c)
 unfolding call_step check ◌>>◌ stop_of
 call-null-does {w} {c} ready k y o ey eo e =
     does-stop Fault.Null

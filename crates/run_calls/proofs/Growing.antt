@@ -28,7 +28,7 @@ use Rattle.tables.proofs.Rows.{class-length}
 use Rattle.tables.proofs.BytesRead.{same-trans}
 use Rattle.tables.proofs.Decoding.{tables-same, rows-count-same, kind-same, classes-count-same, field-count-same, place_same}
 use Rattle.run_heap.specs.declared.Fault.{Fault}
-use Rattle.run_steps.specs.declared.Turn.{Turn}
+use Rattle.std.specs.Prelude.{Some, Ok, Err}
 use Rattle.run_heap.specs.declared.View.{View}
 use Rattle.run_heap.specs.Views.{frame_at, cell_value, one, halves_at, class_in, first_in, cell_of, halves_in, halves_of, made, view_of, stop_of, ObjectFits}
 use Rattle.run_steps.specs.States.{HeapIs, Represents, Follows, Does, CanStep, AtKind, at_row, NotEnd}
@@ -425,7 +425,7 @@ module _ {w : List ℕ} {c : Machine} {m : Config} (R : Represents w c m) (class
   pub new-on :
       (x mo mf : ℕ) → x < frame_variables → NotEnd w c → c.objects < mo → c.fields + count ≤ mf →
       Follows (put_word w' (frame_at (length m.callers) + x * 4) (c.objects + 1)) c
-      (Turn.On (at_row (larger c count c.steps) (c.row + 1) (c.steps + 1))) m
+      (Ok (Some (at_row (larger c count c.steps) (c.row + 1) (c.steps + 1)))) m
       (took (new_step (record { objects = mo; fields = mf }) x (class_at w class) m))
   unfolding new_step grown with_frame advance bind holding check ◌>>◌
   new-on x mo mf lx k l h =
@@ -447,7 +447,7 @@ module _ {w : List ℕ} {c : Machine} {m : Config} (R : Represents w c m) (class
 pub new-stop :
     {w : List ℕ} {c : Machine} {m : Config} (R : Represents w c m) (class x mo mf : ℕ) →
     (mo ≤ c.objects) ⊎ (mf < c.fields + field_count_at w class) →
-    Follows w c (Turn.Stopped Fault.HeapFull) m (took (new_step (record { objects = mo; fields = mf }) x (class_at w class) m))
+    Follows w c (Err Fault.HeapFull) m (took (new_step (record { objects = mo; fields = mf }) x (class_at w class) m))
 unfolding new_step check ◌>>◌ stop_of
 new-stop {w} {c} {m} R class x mo mf (inl l) =
     let a : ltb (length m.heap) mo ≡ false = le-ltb (length m.heap) mo (omega (arith, R.heap.count)) in
@@ -473,19 +473,19 @@ module _ {w : List ℕ} {c : Machine} (ready : CanStep w c) (k : AtKind w c New)
 
   pub new-stops :
       (mo ≤ c.objects) ⊎ (mf < c.fields + n) →
-      Does w c w (Turn.Stopped Fault.HeapFull)
+      Does w c w (Err Fault.HeapFull)
       (new_here w c (record { objects = mo; fields = mf }))
   new-stops o =
       does-stop Fault.HeapFull
       (λ m R.
-      subst (λ i. Follows w c (Turn.Stopped Fault.HeapFull) m (took (new_step (record { objects = mo; fields = mf }) (x_at w c.row) (class_at w i) m))) ec
+      subst (λ i. Follows w c (Err Fault.HeapFull) m (took (new_step (record { objects = mo; fields = mf }) (x_at w c.row) (class_at w i) m))) ec
       (new-stop R class (x_at w c.row) mo mf (⊎_elim inl (λ l. inr (omega (arith, l, en))) o)))
 
   pub new-does :
       (v : View) (x : ℕ) {w' : List ℕ} {d : Machine} → c.objects < mo → c.fields + n ≤ mf → v ≡ view_of c → x ≡ x_at w c.row →
       w' ≡ put_word (made w c.objects c.fields n class c.holder) (v.base + x * 4) (c.objects + 1) →
       d ≡ at_row (larger c n c.steps) (c.row + 1) (c.steps + 1) →
-      Does w c w' (Turn.On d) (new_here w c (record { objects = mo; fields = mf }))
+      Does w c w' (Ok (Some d)) (new_here w c (record { objects = mo; fields = mf }))
   unfolding statement_number
   new-does v x {w'} {d} l h ev ex p q =
       let p' : w' ≡ put_word (made w c.objects c.fields (field_count_at w class) class c.holder) (frame_at (c.frames - 1) + x_at w c.row * 4) (c.objects + 1) =
@@ -499,7 +499,7 @@ module _ {w : List ℕ} {c : Machine} (ready : CanStep w c) (k : AtKind w c New)
       let b : frame_at (c.frames - 1) ≡ frame_at (length m.callers) = omega (arith, R.frames) in
       rw b
       (subst (λ i. Follows (put_word (made w c.objects c.fields (field_count_at w class) class c.holder) (frame_at (length m.callers) + x_at w c.row * 4) (c.objects + 1)) c
-      (Turn.On (at_row (larger c (field_count_at w class) c.steps) (c.row + 1) (c.steps + 1))) m (took (new_step (record { objects = mo; fields = mf }) (x_at w c.row) (class_at w i) m))) ec
+      (Ok (Some (at_row (larger c (field_count_at w class) c.steps) (c.row + 1) (c.steps + 1)))) m (took (new_step (record { objects = mo; fields = mf }) (x_at w c.row) (class_at w i) m))) ec
       (new-on R class new-class (omega arith) (omega (arith, en)) lh (x_at w c.row) mo mf (fits ready).x (λ z. omega (arith, z, k)) l (omega (arith, en)))))
     where
       lh : c.holder < 4294967296

@@ -7,7 +7,8 @@ use Rattle.rules.specs.Machine.{Config, Step, Room, took, new_step, call_step}
 use Rattle.tables.specs.Decode.{x_at, y_at, z_at, member_at, class_at, method_at, method_count, requires_at, first_row_at}
 use Rattle.run_heap.specs.declared.Fault.{Fault}
 use Rattle.run_heap.specs.declared.View.{View}
-use Rattle.run_steps.specs.declared.Turn.{Turn}
+use Rattle.std.specs.Prelude.{Some, None, Ok, Err}
+use Rattle.run_steps.specs.States.{Turn}
 use Rattle.run_heap.specs.Views.{next_view, Readable, stop_of}
 use Rattle.run_footprint.specs.Footprints.{footprint_shares, spread, marked, take_in, SharesFit}
 use Rattle.run_steps.specs.States.{most_count}
@@ -37,10 +38,10 @@ called c row =
 
 -- a call is entered with these shares, unless frames are full
 abbrev pub Enters : List ℕ → Machine → ℕ → List ℕ → List ℕ → Turn → Type 0
-Enters w c method ss w' (Turn.On d) =
+Enters w c method ss w' (Ok (Some d)) =
     (c.frames < most_frames) × (w' ≡ marked w (spread w c.objects ss) c.holder (c.holders + 1)) × (d ≡ called c (first_row_at w method))
-Enters w c method ss w' (Turn.Stopped f) = (most_frames ≤ c.frames) × (w' ≡ w) × (f ≡ Fault.FramesFull)
-Enters w c method ss w' Turn.Done = ⊥
+Enters w c method ss w' (Err f) = (most_frames ≤ c.frames) × (w' ≡ w) × (f ≡ Fault.FramesFull)
+Enters w c method ss w' (Ok None) = ⊥
 
 -- an object more, with n fields
 abbrev pub larger : Machine → ℕ → ℕ → Machine
@@ -70,7 +71,7 @@ pub record Entering (w : List ℕ) (c : Machine) (v : View) (method : ℕ) (shar
 abbrev pub Admits : List ℕ → Machine → ℕ → List ℕ → Turn → Type 0
 Admits w c method w' r =
     ((ss : List ℕ) × (take_in w (next_view c) (requires_at w method) [] ≡ ok ss) × Enters w c method ss w' r)
-    ⊎ ((s : Fault) × (take_in w (next_view c) (requires_at w method) [] ≡ no (stop_of s)) × (r ≡ Turn.Stopped s) × (w' ≡ w))
+    ⊎ ((s : Fault) × (take_in w (next_view c) (requires_at w method) [] ≡ no (stop_of s)) × (r ≡ Err s) × (w' ≡ w))
 
 -- `call` with the next frame in its place
 pub record Calling (w : List ℕ) (c : Machine) (method : ℕ) : Type 0 where

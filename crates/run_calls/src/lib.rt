@@ -8,7 +8,7 @@ ghost use Rattle.run_steps.specs.States.{CanStep, AtKind, Does, most_count, at_r
 ghost use Rattle.run_calls.specs.Calls.{Entering, Enters, Calling, Admits, called, larger, new_here, call_here};
 
 use rules::Machine;
-use run_footprint::{Shares, Took};
+use run_footprint::Shares;
 use run_heap::{Fault, Stores, View};
 use run_steps::Turn;
 use tables::Layout;
@@ -35,11 +35,11 @@ fn enter(work: &mut [u8], c: Machine, v: View, m: usize, shares: &Shares, n: usi
     ensures { Enters work.old c m (take n shares.now) work.new result }
 {
     if Machine::FRAMES as u32 <= c.frames {
-        return Turn::Stopped(Fault::FramesFull);
+        return Err(Fault::FramesFull);
     }
     let row = tables::first_row_at(work, m);
     run_footprint::mark(work, v, shares, n, c.holders + 1);
-    Turn::On(call_in(c, row as u32))
+    Ok(Some(call_in(c, row as u32)))
 }
 
 // Requires, over the values in the next frame's place and what the running frame holds.
@@ -56,10 +56,8 @@ fn admit(work: &mut [u8], c: Machine, m: usize) -> Turn
     let first = tables::requires_first(work, m);
     let n = tables::requires_count(work, m);
     let mut shares = [0usize; run_footprint::SHARES];
-    match run_footprint::footprint(work, v, first, n, &mut shares) {
-        Took::Shares(k) => enter(work, c, v, m, &shares, k),
-        Took::Lacking(s) => Turn::Stopped(s),
-    }
+    let k = run_footprint::footprint(work, v, first, n, &mut shares)?;
+    enter(work, c, v, m, &shares, k)
 }
 
 // `call`: "null receiver, then requires, then frames full".
@@ -73,7 +71,7 @@ pub fn call_step(work: &mut [u8], c: Machine) -> Turn
     let y = tables::y_at(work, row);
     let o = run_heap::variable(work, b, y);
     if o == 0 {
-        return Turn::Stopped(Fault::Null);
+        return Err(Fault::Null);
     }
     let z = tables::z_at(work, row);
     let p = run_heap::variable(work, b, z);
@@ -107,16 +105,16 @@ pub fn new_step(work: &mut [u8], c: Machine, most_objects: u32, most_fields: u32
     let class = tables::member_at(work, row);
     let n = tables::field_count_at(work, class);
     if most_objects <= c.objects {
-        return Turn::Stopped(Fault::HeapFull);
+        return Err(Fault::HeapFull);
     }
     let fields = c.fields + n as u32;
     if most_fields < fields {
-        return Turn::Stopped(Fault::HeapFull);
+        return Err(Fault::HeapFull);
     }
     let v = run_heap::view_of(c);
     let b = v.base;
     let x = tables::x_at(work, row);
     run_heap::make_object(work, c, class, n);
     tables::put_word(work, b + x * Stores::WORD_BYTES, c.objects + 1);
-    Turn::On(grow(c, n as u32))
+    Ok(Some(grow(c, n as u32)))
 }

@@ -11,13 +11,14 @@ use lib.ListN.{length, take, get_or, set, length-set}
 use lib.Seq.{take-suc-set, get_or-set_same, get_or-set_other}
 use borrow.Author.Tests.{ne_eqb, le-leb}
 use Rattle.rules.proofs.Lists.{decide_eq}
-use Rattle.rules.specs.Base.{Try, ok, any}
+use Rattle.rules.specs.Base.{Try, ok, no, any}
 use Rattle.rules.specs.Answers.{Stop}
 use Rattle.rules.proofs.Tries.{no_ok, ok-inj}
 use Rattle.run_heap.specs.declared.View.{View}
-use Rattle.run_heap.specs.Views.{halves_at}
-use Rattle.run_footprint.specs.declared.Took.{Took}
-use Rattle.run_footprint.specs.Footprints.{cell_in, halves_in, is_chain, field_in, part_of, part_by, taken_by, new_share, share_at, ends_by, new_chain, took_is, count_of, TookUpTo, touches, Sieve, sieve_bytes, AllSeen}
+use Rattle.run_heap.specs.Views.{halves_at, stop_of}
+use Rattle.std.specs.Prelude.{Result, Ok, Err}
+use Rattle.run_heap.specs.declared.Fault.{Fault}
+use Rattle.run_footprint.specs.Footprints.{cell_in, halves_in, is_chain, field_in, part_of, part_by, taken_by, new_share, share_at, ends_by, new_chain, took_is, count_of, TookUpTo, TookOne, RoomAfter, touches, Sieve, sieve_bytes, AllSeen}
 use Rattle.run_footprint.proofs.Shares.{share-is, by-none, by-cons}
 use Rattle.run_footprint.proofs.Taking.{new-taken, new-free, chain-free}
 
@@ -93,10 +94,10 @@ sieve-more ss seen seen' s c S n h g =
 
 -- what is taken with it
 pub sieve-took :
-    (r : Took) (l ss seen w : List ℕ) (v : View) (f s : ℕ) → took_is r l ≡ new_share w v f (halves_in s) ss (cell_in s) →
+    (r : Result ℕ Fault) (l ss seen w : List ℕ) (v : View) (f s : ℕ) → took_is r l ≡ new_share w v f (halves_in s) ss (cell_in s) →
     Sieve (ss ++ (s ∷ [])) seen → Sieve (take (count_of r) l) seen
 unfolding took_is count_of
-sieve-took (Took.Shares n) l ss seen w v f s e S =
+sieve-took (Ok n) l ss seen w v f s e S =
     go (leb (halves_in s + taken_by w v.objects f (cell_in s) ss) (halves_at w v.holder (cell_in s))) refl
   where
     go :
@@ -106,10 +107,22 @@ sieve-took (Took.Shares n) l ss seen w v f s e S =
         subst (λ (z : List ℕ). Sieve z seen)
         (sym (ok-inj (e ∙ new-free w v f (halves_in s) ss (cell_in s) t) ∙ ap (λ (r : ℕ). ss ++ (r ∷ [])) (share-is s))) S
     go false t = no_ok (sym (e ∙ new-taken w v f (halves_in s) ss (cell_in s) t))
-sieve-took (Took.Lacking t) l ss seen w v f s e S = sieve-none l seen S.size
+sieve-took (Err t) l ss seen w v f s e S = sieve-none l seen S.size
+
+-- an answer that nothing was taken
+pub nothing-taken :
+    (r : Result ℕ Fault) (s : Fault) (l : List ℕ) (n : ℕ) {t : Try Stop (List ℕ)} → r ≡ Err s → t ≡ no (stop_of s) → length l ≡ 8 → TookUpTo r l n t
+unfolding took_is count_of
+nothing-taken r s l n e q z = rw e (record { took = sym q; count = omega arith; size = z })
+
+pub nothing-more :
+    (r : Result ℕ Fault) (s : Fault) (l seen : List ℕ) (n : ℕ) {t : Try Stop (List ℕ)} → r ≡ Err s → t ≡ no (stop_of s) → RoomAfter l seen n →
+    TookOne r l seen n t
+unfolding count_of
+nothing-more r s l seen n e q (b, S) = (nothing-taken r s l (n + 1) e q b.1, rw e (sieve-none l seen S.size))
 
 -- the same of an answer that is known
-pub sieve-shares : (r : Took) (n : ℕ) (l seen : List ℕ) → r ≡ Took.Shares n → Sieve (take (count_of r) l) seen → Sieve (take n l) seen
+pub sieve-shares : (r : Result ℕ Fault) (n : ℕ) (l seen : List ℕ) → r ≡ Ok n → Sieve (take (count_of r) l) seen → Sieve (take n l) seen
 unfolding count_of
 sieve-shares r n l seen e S = rw e at S
 
@@ -134,7 +147,7 @@ sieve-set ss seen s c S =
 
 -- one share more
 module _ (l : List ℕ) (n s : ℕ) (b : n < 8) (z : length l ≡ 8) where
-  took-put : {t : Try Stop (List ℕ)} → t ≡ ok (take n l ++ (s ∷ [])) → TookUpTo (Took.Shares (n + 1)) (set l n s) (n + 1) t
+  took-put : {t : Try Stop (List ℕ)} → t ≡ ok (take n l ++ (s ∷ [])) → TookUpTo (Ok (n + 1)) (set l n s) (n + 1) t
   unfolding took_is count_of
   took-put e =
       record {
@@ -147,7 +160,7 @@ module _ (l : List ℕ) (n s : ℕ) (b : n < 8) (z : length l ≡ 8) where
   pub took_more :
       (w : List ℕ) (v : View) (f : ℕ) →
       halves_in s + taken_by w v.objects f (cell_in s) (take n l) ≤ halves_at w v.holder (cell_in s) →
-      TookUpTo (Took.Shares (n + 1)) (set l n s) (n + 1) (new_share w v f (halves_in s) (take n l) (cell_in s))
+      TookUpTo (Ok (n + 1)) (set l n s) (n + 1) (new_share w v f (halves_in s) (take n l) (cell_in s))
   took_more w v f e =
       took-put
       (new-free w v f (halves_in s) (take n l) (cell_in s) (le-leb _ _ e) ∙ ap (λ (r : ℕ). ok (take n l ++ (r ∷ []))) (share-is s))
@@ -155,5 +168,5 @@ module _ (l : List ℕ) (n s : ℕ) (b : n < 8) (z : length l ≡ 8) where
   -- a chain that meets none of the others
   pub took-chain :
       (w : List ℕ) (v : View) (last : ℕ) → any (ends_by w v (field_in s) last) (take n l) ≡ false →
-      TookUpTo (Took.Shares (n + 1)) (set l n s) (n + 1) (new_chain w v (take n l) s last)
+      TookUpTo (Ok (n + 1)) (set l n s) (n + 1) (new_chain w v (take n l) s last)
   took-chain w v last e = took-put (chain-free w v (take n l) s last e)

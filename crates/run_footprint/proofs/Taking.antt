@@ -19,25 +19,12 @@ use Rattle.tables.specs.Decode.{run, byte_at, expr_at, left_at, right_at, atom_a
 use Rattle.tables.specs.Tables.{SideFits, AtomFitsAt}
 use Rattle.run_heap.specs.declared.View.{View}
 use Rattle.run_heap.specs.declared.Fault.{Fault}
-use Rattle.run_footprint.specs.declared.Truth.{Truth}
-use Rattle.run_footprint.specs.declared.Took.{Took}
+use Rattle.std.specs.Prelude.{Result, Ok, Err}
 use Rattle.run_heap.specs.Views.{variable_at, halves_at, found, held_cell, spot, read_in, stop_of}
-use Rattle.run_heap.specs.Chains.{whole_cell, free_cell, walk_in}
+use Rattle.run_heap.specs.Chains.{walk_in}
 use Rattle.run_heap.proofs.Reading.{spot-found}
-use Rattle.run_footprint.specs.Footprints.{right_test, test_in, share_of, cell_in, halves_in, chain_of, field_in, taken_by, new_share, share_in, share_at, free_of, ends_by, new_chain, chain_in, own_in, take_in, truth_is, took_is, count_of}
+use Rattle.run_footprint.specs.Footprints.{right_test, test_in, share_of, cell_in, halves_in, chain_of, field_in, taken_by, new_share, share_in, free_of, ends_by, new_chain, chain_in, own_in, take_in, took_is, count_of}
 use Rattle.run_footprint.proofs.Shares.{share_cell, share_halves}
-
-pub truth-holds : (r : Truth) {t : Try Stop Bool} → r ≡ Truth.Holds → truth_is r ≡ t → t ≡ ok true
-unfolding truth_is
-truth-holds r e s = sym s ∙ rw e
-
-pub truth-fails : (r : Truth) {t : Try Stop Bool} → r ≡ Truth.Fails → truth_is r ≡ t → t ≡ ok false
-unfolding truth_is
-truth-fails r e s = sym s ∙ rw e
-
-pub truth-lacking : (r : Truth) (s : Fault) {t : Try Stop Bool} → r ≡ Truth.Lacking s → truth_is r ≡ t → t ≡ no (stop_of s)
-unfolding truth_is
-truth-lacking r k e s = sym s ∙ rw e
 
 -- SHARES
 module _ (w : List ℕ) (v : View) (f n : ℕ) (ss : List ℕ) (k : ℕ) where
@@ -87,19 +74,6 @@ module _ (w : List ℕ) (v : View) (ss : List ℕ) (s last : ℕ) where
   chain-met e = rw e
 
 module _ (w : List ℕ) (v : View) (f o : ℕ) (ss : List ℕ) where
-  pub free-at : (k : ℕ) → whole_cell w v f o ≡ ok k → any (share_at k) ss ≡ false → free_cell w v (free_of ss) f o ≡ ok k
-  unfolding free_cell free_of check ◌>>◌ ◌>>=◌
-  free-at k e q = rw (e, q)
-
-  pub free-shared :
-      (k : ℕ) → whole_cell w v f o ≡ ok k → any (share_at k) ss ≡ true → free_cell w v (free_of ss) f o ≡ no permission_missing
-  unfolding free_cell free_of check ◌>>◌ ◌>>=◌
-  free-shared k e q = rw (e, q)
-
-  pub free-lacking : (s : Stop) → whole_cell w v f o ≡ no s → free_cell w v (free_of ss) f o ≡ no s
-  unfolding free_cell ◌>>=◌
-  free-lacking s e = rw e
-
   pub chain-null : o ≡ 0 → chain_in w v f o ss ≡ ok ss
   unfolding chain_in
   chain-null z = rw (eq-eqb o 0 z)
@@ -252,14 +226,14 @@ module _ (w : List ℕ) (v : View) (first n i : ℕ) (ss : List ℕ) where
   unfolding run take_in
   foot-end h = let e : n - i ≡ 0 = omega arith in rw e
 
-pub took-shares : (r : Took) (n : ℕ) (ss : List ℕ) {t : Try Stop (List ℕ)} → r ≡ Took.Shares n → took_is r ss ≡ t → t ≡ ok (take n ss)
+pub took-shares : (r : Result ℕ Fault) (n : ℕ) (ss : List ℕ) {t : Try Stop (List ℕ)} → r ≡ Ok n → took_is r ss ≡ t → t ≡ ok (take n ss)
 unfolding took_is
 took-shares r n ss e s = sym s ∙ rw e
 
-pub took-lacking : (r : Took) (s : Fault) (ss : List ℕ) {t : Try Stop (List ℕ)} → r ≡ Took.Lacking s → took_is r ss ≡ t → t ≡ no (stop_of s)
+pub took-lacking : (r : Result ℕ Fault) (s : Fault) (ss : List ℕ) {t : Try Stop (List ℕ)} → r ≡ Err s → took_is r ss ≡ t → t ≡ no (stop_of s)
 unfolding took_is
 took-lacking r n ss e s = sym s ∙ rw e
 
-pub count-shares : (r : Took) (n m : ℕ) → r ≡ Took.Shares n → count_of r ≤ m → n ≤ m
+pub count-shares : (r : Result ℕ Fault) (n m : ℕ) → r ≡ Ok n → count_of r ≤ m → n ≤ m
 unfolding count_of
 count-shares r n m e l = rw e at l

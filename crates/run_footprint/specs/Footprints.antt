@@ -1,5 +1,5 @@
 -- What a formula takes, as shares of cells and as chains of them: comparisons, shares taken, who holds them then.
-use Rattle.std.specs.Prelude.{Bool, true, false, cond, not, ◌&&◌, ◌||◌, List, [], ◌∷◌, ◌++◌, map, ◌≡◌, ℕ, zero, suc, ◌+◌, ◌*◌, ◌/◌, ◌%◌, ◌≤◌, ◌<◌, T, eqb, leb, length, take, get_or}
+use Rattle.std.specs.Prelude.{Bool, true, false, cond, not, ◌&&◌, ◌||◌, List, [], ◌∷◌, ◌++◌, map, ◌≡◌, ℕ, zero, suc, ◌+◌, ◌*◌, ◌/◌, ◌%◌, ◌≤◌, ◌<◌, T, eqb, leb, length, take, get_or, Result, Ok, Err}
 use Rattle.rules.specs.Limits.{most_atoms, heap_fields}
 use Rattle.rules.specs.Base.{Try, ok, no, ◌>>=◌, ◌>>◌, check, any}
 use Rattle.rules.specs.Answers.{Stop, permission_missing, formula_false}
@@ -9,8 +9,7 @@ use Rattle.tables.specs.Numbers.{chain_atom, word_values}
 use Rattle.tables.specs.Layout.{most_names}
 use Rattle.tables.specs.Decode.{byte_at, left_at, right_at, rel_of, atom_place}
 use Rattle.run_heap.specs.declared.View.{View}
-use Rattle.run_footprint.specs.declared.Truth.{Truth}
-use Rattle.run_footprint.specs.declared.Took.{Took}
+use Rattle.run_heap.specs.declared.Fault.{Fault}
 use Rattle.run_heap.specs.Views.{whole, variable_at, cell_value, cell_of, read_in, found, halves_at, handed, stop_of}
 use Rattle.run_heap.specs.Chains.{walk_in, at_cell, cells_by}
 
@@ -152,26 +151,22 @@ chain_marked w n f (suc m) o from to =
 
 -- ANSWERS
 
-unfoldable pub truth_is : Truth → Try Stop Bool
-truth_is Truth.Holds = ok true
-truth_is Truth.Fails = ok false
-truth_is (Truth.Lacking s) = no (stop_of s)
-
-unfoldable pub count_of : Took → ℕ
-count_of (Took.Shares n) = n
-count_of (Took.Lacking s) = 0
+-- how many shares a formula took
+unfoldable pub count_of : Result ℕ Fault → ℕ
+count_of (Ok n) = n
+count_of (Err s) = 0
 
 -- so many of these shares
-unfoldable pub took_is : Took → List ℕ → Try Stop (List ℕ)
-took_is (Took.Shares n) ss = ok (take n ss)
-took_is (Took.Lacking s) ss = no (stop_of s)
+unfoldable pub took_is : Result ℕ Fault → List ℕ → Try Stop (List ℕ)
+took_is (Ok n) ss = ok (take n ss)
+took_is (Err s) ss = no (stop_of s)
 
 -- how many shares a footprint can have: each atom of a formula takes one at most
 abbrev pub footprint_shares : ℕ
 footprint_shares = most_atoms
 
 -- what a formula took is in the first of these shares, at most n
-pub record TookUpTo (r : Took) (ss : List ℕ) (n : ℕ) (t : Try Stop (List ℕ)) : Type 0 where
+pub record TookUpTo (r : Result ℕ Fault) (ss : List ℕ) (n : ℕ) (t : Try Stop (List ℕ)) : Type 0 where
   pub took : took_is r ss ≡ t
   pub count : count_of r ≤ n
   pub size : length ss ≡ footprint_shares
@@ -198,7 +193,7 @@ abbrev pub RoomAfter : List ℕ → List ℕ → ℕ → Type 0
 RoomAfter ss seen n = ((n < footprint_shares) × (length ss ≡ footprint_shares)) × Sieve (take n ss) seen
 
 -- after n shares at most one more was taken, and the bytes go on saying which remainders they have
-abbrev pub TookOne : Took → List ℕ → List ℕ → ℕ → Try Stop (List ℕ) → Type 0
+abbrev pub TookOne : Result ℕ Fault → List ℕ → List ℕ → ℕ → Try Stop (List ℕ) → Type 0
 TookOne r ss seen n t = TookUpTo r ss (n + 1) t × Sieve (take (count_of r) ss) seen
 
 -- a share of a cell of the heap, of at least one half

@@ -8,9 +8,9 @@ ghost use Rattle.run_heap.specs.Views.{whole, Readable};
 ghost use Rattle.run_heap.specs.Chains.{cells_by};
 ghost use Rattle.run_footprint.specs.Footprints.{is_chain, start_in, field_in, chain_part, ends_by, new_chain, chain_marked, take_in, footprint_shares, sieve_bytes, AllSeen, TookOne, RoomAfter};
 
-use crate::walks::walk_after;
-use crate::{SHARE, SIEVE, Shares, Took};
-use run_heap::{Fault, Read, Spot, Stores, View};
+use crate::walks::{one_of, walk_after};
+use crate::{SHARE, SIEVE, Shares};
+use run_heap::{Fault, Stores, View};
 use tables::{AtomKind, Layout};
 
 // So many values have the objects' numbers.
@@ -43,17 +43,14 @@ fn passes(work: &[u8], v: View, f: usize, o: u32, k: usize) -> bool
     ensures { result ≡ any (eqb k) (cells_by work.now v.objects f v.objects o) }
 {
     let mut at = o;
-    let n = v.objects;
-    let mut i = 0;
-    while i < n {
-        let Spot::At(j) = run_heap::cell_of(work, v, at, f) else {
+    for _i in 0..v.objects {
+        let Ok(j) = run_heap::cell_of(work, v, at, f) else {
             return false;
         };
         if j == k {
             return true;
         }
         at = run_heap::cell_value(work, j);
-        i += 1;
     }
     false
 }
@@ -89,8 +86,8 @@ fn ends_by(work: &[u8], v: View, f: usize, s: usize, last: u32) -> bool
 {
     if chain_by(s, f) {
         return match run_heap::walk(work, v, f, start_of(s)) {
-            Read::Got(l) => l == last,
-            Read::Lacking(_) => false,
+            Ok(l) => l == last,
+            Err(_) => false,
         };
     }
     false
@@ -101,15 +98,7 @@ fn ends_at(work: &[u8], v: View, f: usize, shares: &Shares, n: usize, last: u32)
     requires { (Readable work.now v × (f < most_names)) × ((n ≤ footprint_shares) × (length shares.now ≡ footprint_shares)) }
     ensures { result ≡ any (ends_by work.now v f last) (take n shares.now) }
 {
-    let mut i = 0;
-    while i < n {
-        let s = shares[i];
-        if ends_by(work, v, f, s, last) {
-            return true;
-        }
-        i += 1;
-    }
-    false
+    one_of(shares, n, |s| ends_by(work, v, f, s, last))
 }
 
 // Every remainder has been seen.
@@ -117,11 +106,7 @@ fn fill_seen(seen: &mut [u8; SIEVE])
     requires { length seen.old ≡ sieve_bytes }
     ensures { AllSeen seen.new }
 {
-    let mut i = 0;
-    while i < SIEVE {
-        seen[i] = 1;
-        i += 1;
-    }
+    *seen = [1; SIEVE];
 }
 
 // Takes the chain s, whose walk came to null from the object `last`, after n shares.
@@ -133,16 +118,16 @@ fn put_chain(
     n: usize,
     s: usize,
     last: u32,
-) -> Took
+) -> Result<usize, Fault>
     requires { Readable work.now v × RoomAfter shares.old seen.old n }
     ensures { TookOne result shares.new seen.new n (new_chain work.now v (take n shares.old) s last) }
 {
     if ends_at(work, v, field_of(s), shares, n, last) {
-        return Took::Lacking(Fault::Permission);
+        return Err(Fault::Permission);
     }
     fill_seen(seen);
     shares[n] = s;
-    Took::Shares(n + 1)
+    Ok(n + 1)
 }
 
 // `chain x f`, the atom a, after n shares. That of null takes nothing.
@@ -153,7 +138,7 @@ pub fn take_chain(
     shares: &mut Shares,
     seen: &mut [u8; SIEVE],
     n: usize,
-) -> Took
+) -> Result<usize, Fault>
     requires { (Readable work.now v × ((a < atom_count work.now) × (atom_kind_at work.now a ≡ chain_atom))) × RoomAfter shares.old seen.old n }
     ensures { TookOne result shares.new seen.new n (take_in work.now v (atom_at work.now a ∷ []) (take n shares.old)) }
 {
@@ -162,13 +147,11 @@ pub fn take_chain(
     let f = tables::atom_field(work, a);
     let o = run_heap::variable(work, b, x);
     if o == 0 {
-        return Took::Shares(n);
+        return Ok(n);
     }
     let s = (o as usize * Layout::FIELD_NAMES + f) * SHARE + AtomKind::CHAIN;
-    match walk_after(work, v, f, o, shares, seen, n) {
-        Read::Got(last) => put_chain(work, v, shares, seen, n, s, last),
-        Read::Lacking(t) => Took::Lacking(t),
-    }
+    let last = walk_after(work, v, f, o, shares, seen, n)?;
+    put_chain(work, v, shares, seen, n, s, last)
 }
 
 // The cells of the chain s go from the view's number to another.
@@ -179,14 +162,11 @@ pub fn mark_chain(work: &mut [u8], v: View, s: usize, to: u32)
     let f = field_of(s);
     let mut at = start_of(s);
     let c = run_heap::cache_of(work, v, f, at);
-    let n = v.objects;
-    let mut i = 0;
-    while i < n {
-        let Spot::At(k) = run_heap::cell_by(work, v, c, at, f) else {
+    for _i in 0..v.objects {
+        let Ok(k) = run_heap::cell_by(work, v, c, at, f) else {
             return;
         };
         at = run_heap::cell_value(work, k);
         run_heap::hand_over(work, k, Stores::WHOLE, v.holder, to);
-        i += 1;
     }
 }

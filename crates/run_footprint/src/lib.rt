@@ -9,14 +9,13 @@ ghost use Rattle.rules.specs.Limits.{heap_fields};
 ghost use Rattle.tables.specs.Numbers.{chain_atom};
 ghost use Rattle.tables.specs.Layout.{most_names};
 ghost use Rattle.tables.specs.Decode.{rel_of, atoms_from, atom_count, atom_at, atom_kind_at};
-ghost use Rattle.rules.specs.Base.{ok};
 ghost use Rattle.rules.specs.Machine.{compared};
-ghost use Rattle.run_heap.specs.Views.{Readable, halves_at};
-ghost use Rattle.run_footprint.specs.Footprints.{right_test, test_in, share_size, cell_in, halves_in, part_by, taken_by, new_share, take_in, spread_one, spread, SharesFit, marked, truth_is, footprint_shares, TookUpTo, TookOne, RoomAfter};
+ghost use Rattle.run_heap.specs.Views.{Readable, halves_at, answered};
+ghost use Rattle.run_footprint.specs.Footprints.{test_in, share_size, cell_in, halves_in, part_by, taken_by, new_share, take_in, spread_one, spread, SharesFit, marked, footprint_shares, TookUpTo, TookOne, RoomAfter};
 
 use chains::{chain_part, is_chain, mark_chain, take_chain};
 use rules::Machine;
-use run_heap::{Fault, Read, Spot, View};
+use run_heap::{Fault, View};
 use tables::AtomKind;
 
 // The shares of a footprint: each a cell times SHARE, and how many halves of it; or a chain, with the object and the field from and by which it goes
@@ -31,78 +30,26 @@ const SHARE: usize = 4;
 // The bytes that say which remainders the cells of the shares taken have.
 const SIEVE: usize = 64;
 
-// Whether a comparison is true.
-#[derive(Clone, Copy)]
-pub enum Truth {
-    Holds,
-    Fails,
-    Lacking(Fault),
-}
-
-// How many shares a formula took.
-#[derive(Clone, Copy)]
-pub enum Took {
-    Shares(usize),
-    Lacking(Fault),
-}
-
 // Whether l and r compare as the kind of an atom says: `eq`, else `ne`.
-fn compare(kind: usize, l: u32, r: u32) -> Truth
-    ensures { truth_is result ≡ ok (compared (rel_of kind) l r) }
+pub fn compare(kind: usize, l: u32, r: u32) -> bool
+    ensures { result ≡ compared (rel_of kind) l r }
 {
     if kind == AtomKind::EQ {
-        if l == r {
-            return Truth::Holds;
-        }
-        return Truth::Fails;
+        return l == r;
     }
-    if l == r {
-        return Truth::Fails;
-    }
-    Truth::Holds
+    l != r
 }
 
-fn test_right(work: &[u8], v: View, a: usize, l: u32) -> Truth
+// The comparison of the atom a, "of two sides the left first", in a formula or the condition of an `if` or a `loop`. Inlined at both, because a formula
+// takes twice as long where `footprint` calls it.
+#[inline(always)]
+pub fn condition(work: &[u8], v: View, a: usize) -> Result<bool, Fault>
     requires { Readable work.now v × (a < atom_count work.now) }
-    ensures { truth_is result ≡ right_test work.now v a l }
+    ensures { answered result ≡ test_in work.now v a }
 {
-    match run_heap::right(work, v, a) {
-        Read::Got(r) => compare(tables::atom_kind(work, a), l, r),
-        Read::Lacking(s) => Truth::Lacking(s),
-    }
-}
-
-// The comparison of the atom a, "of two sides the left first".
-fn test(work: &[u8], v: View, a: usize) -> Truth
-    requires { Readable work.now v × (a < atom_count work.now) }
-    ensures { truth_is result ≡ test_in work.now v a }
-{
-    match run_heap::left(work, v, a) {
-        Read::Got(l) => test_right(work, v, a, l),
-        Read::Lacking(s) => Truth::Lacking(s),
-    }
-}
-
-fn condition_right(work: &[u8], v: View, a: usize, l: u32) -> Truth
-    requires { Readable work.now v × (a < atom_count work.now) }
-    ensures { truth_is result ≡ right_test work.now v a l }
-{
-    match run_heap::right(work, v, a) {
-        Read::Got(r) => compare(tables::atom_kind(work, a), l, r),
-        Read::Lacking(s) => Truth::Lacking(s),
-    }
-}
-
-// The condition of an `if` or a `loop`: `test` again, because the compiler puts a function into its only caller, and a formula takes twice as long
-// where `footprint` calls a `test` that is shared.
-pub fn condition(work: &[u8], v: View, a: usize) -> Truth
-    requires { Readable work.now v × (a < atom_count work.now) }
-    ensures { truth_is result ≡ test_in work.now v a }
-{
-    match run_heap::left(work, v, a) {
-        Read::Got(l) => condition_right(work, v, a, l),
-        Read::Lacking(s) => Truth::Lacking(s),
-    }
+    let l = run_heap::left(work, v, a)?;
+    let r = run_heap::right(work, v, a)?;
+    Ok(compare(tables::atom_kind(work, a), l, r))
 }
 
 // How many halves of the cell k, which is of a field f, the share s takes.
@@ -125,27 +72,31 @@ fn taken(work: &[u8], v: View, f: usize, shares: &Shares, n: usize, k: usize) ->
     ensures { (result ≡ taken_by work.now v.objects f k (take n shares.now)) × (result < share_size * footprint_shares) }
 {
     let mut t = 0;
-    let mut i = 0;
-    while i < n {
-        let s = shares[i];
-        t += part_of(work, v, f, s, k);
-        i += 1;
+    for i in 0..n {
+        t += part_of(work, v, f, shares[i], k);
     }
     t
 }
 
 // Takes the share s, of a field f, after n others, some of which may be of its cell.
-fn put_seen(work: &[u8], v: View, f: usize, shares: &mut Shares, n: usize, s: usize) -> Took
+fn put_seen(
+    work: &[u8],
+    v: View,
+    f: usize,
+    shares: &mut Shares,
+    n: usize,
+    s: usize,
+) -> Result<usize, Fault>
     requires { ((Readable work.now v × (f < most_names)) × (cell_in s < heap_fields)) × ((n < footprint_shares) × (length shares.old ≡ footprint_shares)) }
     ensures { TookUpTo result shares.new (n + 1) (new_share work.now v f (halves_in s) (take n shares.old) (cell_in s)) }
 {
     let k = s / SHARE;
     let t = s % SHARE + taken(work, v, f, shares, n, k);
     if run_heap::halves_held(work, v.holder, k) < t {
-        return Took::Lacking(Fault::Permission);
+        return Err(Fault::Permission);
     }
     shares[n] = s;
-    Took::Shares(n + 1)
+    Ok(n + 1)
 }
 
 // Takes the share s, of a field f, which the view's number holds, after n others. Those are looked at only where the remainder of its cell by SIEVE has
@@ -158,7 +109,7 @@ fn put_share(
     seen: &mut [u8; SIEVE],
     n: usize,
     s: usize,
-) -> Took
+) -> Result<usize, Fault>
     requires { (((Readable work.now v × (f < most_names)) × (cell_in s < heap_fields)) × (halves_in s ≤ halves_at work.now v.holder (cell_in s))) × RoomAfter shares.old seen.old n }
     ensures { TookOne result shares.new seen.new n (new_share work.now v f (halves_in s) (take n shares.old) (cell_in s)) }
 {
@@ -167,7 +118,7 @@ fn put_share(
     if b == 0 {
         seen[r] = 1;
         shares[n] = s;
-        return Took::Shares(n + 1);
+        return Ok(n + 1);
     }
     put_seen(work, v, f, shares, n, s)
 }
@@ -180,17 +131,15 @@ fn take_share(
     shares: &mut Shares,
     seen: &mut [u8; SIEVE],
     n: usize,
-) -> Took
+) -> Result<usize, Fault>
     requires { (Readable work.now v × ((a < atom_count work.now) × (atom_kind_at work.now a < chain_atom))) × RoomAfter shares.old seen.old n }
     ensures { TookOne result shares.new seen.new n (take_in work.now v (atom_at work.now a ∷ []) (take n shares.old)) }
 {
     let halves = tables::atom_kind(work, a);
     let x = tables::atom_variable(work, a);
     let f = tables::atom_field(work, a);
-    match run_heap::locate(work, v, halves, x, f) {
-        Spot::At(k) => put_share(work, v, f, shares, seen, n, k * SHARE + halves),
-        Spot::Lacking(s) => Took::Lacking(s),
-    }
+    let k = run_heap::locate(work, v, halves, x, f)?;
+    put_share(work, v, f, shares, seen, n, k * SHARE + halves)
 }
 
 // The atom a, after n shares.
@@ -201,7 +150,7 @@ fn take_atom(
     shares: &mut Shares,
     seen: &mut [u8; SIEVE],
     n: usize,
-) -> Took
+) -> Result<usize, Fault>
     requires { (Readable work.now v × (a < atom_count work.now)) × RoomAfter shares.old seen.old n }
     ensures { TookOne result shares.new seen.new n (take_in work.now v (atom_at work.now a ∷ []) (take n shares.old)) }
 {
@@ -212,31 +161,31 @@ fn take_atom(
     if kind == AtomKind::CHAIN {
         return take_chain(work, v, a, shares, seen, n);
     }
-    match test(work, v, a) {
-        Truth::Holds => Took::Shares(n),
-        Truth::Fails => Took::Lacking(Fault::False),
-        Truth::Lacking(s) => Took::Lacking(s),
+    let holds = condition(work, v, a)?;
+    if holds {
+        return Ok(n);
     }
+    Err(Fault::False)
 }
 
 // "A formula's footprint is the locations that its `acc` atoms take", with W8 the halves that its `acc` and `read` do: n atoms from
 // the first on.
-pub fn footprint(work: &[u8], v: View, first: usize, n: usize, shares: &mut Shares) -> Took
+pub fn footprint(
+    work: &[u8],
+    v: View,
+    first: usize,
+    n: usize,
+    shares: &mut Shares,
+) -> Result<usize, Fault>
     requires { (Readable work.now v × (first + n ≤ atom_count work.now)) × ((n ≤ footprint_shares) × (length shares.old ≡ footprint_shares)) }
     ensures { TookUpTo result shares.new footprint_shares (take_in work.now v (atoms_from work.now first n) []) }
 {
     let mut seen = [0u8; SIEVE];
     let mut count = 0;
-    let mut i = 0;
-    while i < n {
-        let t = take_atom(work, v, first + i, shares, &mut seen, count);
-        let Took::Shares(k) = t else {
-            return t;
-        };
-        count = k;
-        i += 1;
+    for i in 0..n {
+        count = take_atom(work, v, first + i, shares, &mut seen, count)?;
     }
-    Took::Shares(count)
+    Ok(count)
 }
 
 // The share s goes from the view's number to another.
@@ -256,10 +205,7 @@ pub fn mark(work: &mut [u8], v: View, shares: &Shares, n: usize, to: u32)
     requires { (Readable work.old v × ((n ≤ footprint_shares) × (length shares.now ≡ footprint_shares))) × SharesFit (spread work.old v.objects (take n shares.now)) }
     ensures { work.new ≡ marked work.old (spread work.old v.objects (take n shares.now)) v.holder to }
 {
-    let mut i = 0;
-    while i < n {
-        let s = shares[i];
-        mark_one(work, v, s, to);
-        i += 1;
+    for i in 0..n {
+        mark_one(work, v, shares[i], to);
     }
 }

@@ -15,26 +15,22 @@ use Rattle.tables.specs.Tables.{Tables, ClassFits, place_at}
 use Rattle.tables.specs.Stores.{meaning}
 use Rattle.run_heap.specs.declared.View.{View}
 use Rattle.run_heap.specs.declared.Fault.{Fault}
-use Rattle.run_heap.specs.declared.Spot.{Spot}
-use Rattle.run_heap.specs.declared.Read.{Read}
-use Rattle.run_heap.specs.Views.{variable_at, halves_at, class_in, first_in, placed, cell_of, present, found_of, found, held_cell, spot, read_in, stop_of, spot_is, read_is, ObjectFits, PlainIs, Readable}
+use Rattle.std.specs.Prelude.{Result, Ok, Err, IsErrAnd}
+use Rattle.run_heap.specs.Views.{variable_at, halves_at, class_in, first_in, placed, cell_of, present, found_of, found, held_cell, spot, read_in, stop_of, answered, ObjectFits, PlainIs, Readable}
 
 -- ANSWERS BY CASES
-pub spot-at : (r : Spot) (k : ℕ) {t : Try Stop ℕ} → r ≡ Spot.At k → spot_is r ≡ t → t ≡ ok k
-unfolding spot_is
-spot-at r k e s = sym s ∙ rw e
+pub answered-ok : {A : Type 0} (r : Result A Fault) (k : A) {t : Try Stop A} → r ≡ Ok k → answered r ≡ t → t ≡ ok k
+unfolding answered
+answered-ok r k e s = sym s ∙ rw e
 
-pub spot-lacking : (r : Spot) (s : Fault) {t : Try Stop ℕ} → r ≡ Spot.Lacking s → spot_is r ≡ t → t ≡ no (stop_of s)
-unfolding spot_is
-spot-lacking r k e s = sym s ∙ rw e
+pub answered-err : {A : Type 0} (r : Result A Fault) (s : Fault) {t : Try Stop A} → r ≡ Err s → answered r ≡ t → t ≡ no (stop_of s)
+unfolding answered
+answered-err r k e s = sym s ∙ rw e
 
-pub read-got : (r : Read) (k : ℕ) {t : Try Stop ℕ} → r ≡ Read.Got k → read_is r ≡ t → t ≡ ok k
-unfolding read_is
-read-got r k e s = sym s ∙ rw e
-
-pub read-lacking : (r : Read) (s : Fault) {t : Try Stop ℕ} → r ≡ Read.Lacking s → read_is r ≡ t → t ≡ no (stop_of s)
-unfolding read_is
-read-lacking r k e s = sym s ∙ rw e
+-- an answer that a `?` passes on
+pub passed-on : {A E : Type 0} (r : Result A E) (s : E) → IsErrAnd r (λ x. x ≡ s) → r ≡ Err s
+passed-on (Ok x) s p = absurd p
+passed-on (Err x) s p = ap Err p
 
 -- CELLS
 

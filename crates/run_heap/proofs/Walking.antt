@@ -57,9 +57,6 @@ module _ (w : List ℕ) (v : View) (f : ℕ) where
         let (j, a, b) = bind_ok (whole_cell w v f o) e in
         a ∙ ap ok (ok-inj (check-ok (free j) permission_missing b).1)
 
-    pub free-small : (k : ℕ) → Readable w v → free_cell w v free f o ≡ ok k → k < heap_fields
-    free-small k R e = whole-small o k R (free-whole k e)
-
     free-lacks : (s : Stop) → (o ≡ 0 → ⊥) → free_cell w v free f o ≡ no s → s ≡ permission_missing
     unfolding free_cell check ◌>>◌ ◌>>=◌
     free-lacks s z e = go (whole_cell w v f o) refl e
@@ -71,6 +68,19 @@ module _ (w : List ℕ) (v : View) (f : ℕ) where
             last-test : (b : Bool) → (check b permission_missing >> ok k) ≡ no s → s ≡ permission_missing
             last-test true q = no_ok (sym q)
             last-test false q = cc
+
+    -- where the location is held whole, it is free or not
+    pub free-ok : (k : ℕ) → whole_cell w v f o ≡ ok k → free k ≡ true → free_cell w v free f o ≡ ok k
+    unfolding free_cell check ◌>>◌ ◌>>=◌
+    free-ok k e t = rw (e, t)
+
+    pub free-stops : (s : Stop) → whole_cell w v f o ≡ no s → free_cell w v free f o ≡ no s
+    unfolding free_cell ◌>>=◌
+    free-stops s e = rw e
+
+    free-taken : (k : ℕ) → whole_cell w v f o ≡ ok k → free k ≡ false → free_cell w v free f o ≡ no permission_missing
+    unfolding free_cell check ◌>>◌ ◌>>=◌
+    free-taken k e t = rw (e, t)
 
     pub walk-on :
         (n last k : ℕ) → free_cell w v free f o ≡ ok k → walk_in w v free f (suc n) o last ≡ walk_in w v free f n (cell_value w k) o
@@ -97,6 +107,12 @@ module _ (w : List ℕ) (v : View) (f : ℕ) (free : ℕ → Bool) (n i o last :
 
   pub walk-stops : (s : Stop) → i ≤ n → free_cell w v free f o ≡ no s → walk_in w v free f (suc n - i) o last ≡ walk_end o last
   walk-stops s l e = let b : suc n - i ≡ suc (n - i) = omega arith in rw b (walk-off w v f free o (n - i) last s e)
+
+  pub walk-taken :
+      (k : ℕ) → i ≤ n → whole_cell w v f o ≡ ok k → free k ≡ false → walk_in w v free f (suc n - i) o last ≡ no permission_missing
+  unfolding walk_end
+  walk-taken k l e t =
+      walk-stops permission_missing l (free-taken w v f free o k e t) ∙ rw (ne_eqb o 0 (whole-object w v f o k e))
 
   pub walk-over : n < i → walk_in w v free f (suc n - i) o last ≡ no formula_false
   unfolding walk_in

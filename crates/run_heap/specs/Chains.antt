@@ -46,6 +46,10 @@ pub record Caches (w : List ℕ) (f : ℕ) (c : Cache) : Type 0 where
   pub is_place : c.class < most_classes → place_at w c.class f ≡ c.place
   pub has_place : c.class < most_classes → c.place ≢ no_place
 
+-- a test of cells by the code answers as this one
+abbrev pub Answers : (ℕ → Bool → Type 0) → (ℕ → Bool) → Type 0
+Answers post test = (k : ℕ) (b : Bool) → post k b → b ≡ test k
+
 -- the rest of a walk that is where s says, of fewer cells than there are objects and one more
 abbrev pub rest_of : List ℕ → View → ℕ → Reached → Try Stop ℕ
 rest_of w v f s = walk_in w v (λ _. true) f (suc v.objects - s.passed) s.at s.last

@@ -1,5 +1,5 @@
 -- The machine's stores in the work area, and what the code reads from them: variables, cells, holders, expressions and formulas.
-use Rattle.std.specs.Prelude.{◌≡◌, ℕ, zero, suc, ◌+◌, ◌-◌, ◌*◌, ◌<◌, ◌≤◌, Bool, cond, not, ◌&&◌, List, ◌==◌, nat_le, nat_lt, slice_set}
+use Rattle.std.specs.Prelude.{◌≡◌, ℕ, zero, suc, ◌+◌, ◌-◌, ◌*◌, ◌<◌, ◌≤◌, Bool, cond, not, ◌&&◌, List, ◌==◌, nat_le, nat_lt, slice_set, Result, Ok, Err}
 use Rattle.std.proofs.Math.Option.{Option, none, some}
 use Rattle.rules.specs.Limits.{heap_objects, heap_fields, work_bytes}
 use Rattle.rules.specs.Base.{Try, ok, no, ◌>>=◌, ◌>>◌, check}
@@ -14,8 +14,6 @@ use Rattle.tables.specs.Tables.{Tables, place_at}
 use Rattle.tables.specs.Stores.{put_half, put_word}
 use Rattle.run_heap.specs.declared.View.{View}
 use Rattle.run_heap.specs.declared.Fault.{Fault}
-use Rattle.run_heap.specs.declared.Spot.{Spot}
-use Rattle.run_heap.specs.declared.Read.{Read}
 
 -- STORES
 
@@ -201,13 +199,10 @@ stop_of Fault.Null = null_followed
 stop_of Fault.False = formula_false
 stop_of Fault.Overflow = overflow
 
-unfoldable pub spot_is : Spot → Try Stop ℕ
-spot_is (Spot.At k) = ok k
-spot_is (Spot.Lacking s) = no (stop_of s)
-
-unfoldable pub read_is : Read → Try Stop ℕ
-read_is (Read.Got n) = ok n
-read_is (Read.Lacking s) = no (stop_of s)
+-- what is found, or why it is not
+unfoldable pub answered : {A : Type 0} → Result A Fault → Try Stop A
+answered (Ok x) = ok x
+answered (Err s) = no (stop_of s)
 
 -- WHAT READING NEEDS
 

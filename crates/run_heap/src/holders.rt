@@ -1,9 +1,9 @@
 // Who holds the cells. Each has two words side by side: for each half the number of the frame that has it, 0 for nobody.
 ghost use Rattle.std.specs.Prelude.{◌≡◌, ◌<◌, length, ◌==◌, nat_le};
 ghost use Rattle.rules.specs.Limits.{work_bytes, heap_fields};
-ghost use Rattle.run_heap.specs.Views.{first_holder, second_holder, one, halves_at, Halves, held_cell, whole, whole_put, half_put, handed, spot_is};
+ghost use Rattle.run_heap.specs.Views.{first_holder, second_holder, one, halves_at, Halves, held_cell, whole, whole_put, half_put, handed, answered};
 
-use crate::{Fault, Spot, Stores};
+use crate::{Fault, Stores};
 use tables::Layout;
 
 // Both holders as one number: what the second counts, and what the number that holds both does.
@@ -67,14 +67,14 @@ fn holds(work: &[u8], h: u32, n: usize, k: usize) -> bool
 }
 
 // The cell, if h holds n halves of it.
-pub fn held_cell(work: &[u8], h: u32, n: usize, k: usize) -> Spot
+pub fn held_cell(work: &[u8], h: u32, n: usize, k: usize) -> Result<usize, Fault>
     requires { ((length work.now ≡ work_bytes) × (k < heap_fields)) × Halves n }
-    ensures { spot_is result ≡ held_cell work.now h n k }
+    ensures { answered result ≡ held_cell work.now h n k }
 {
     if holds(work, h, n, k) {
-        return Spot::At(k);
+        return Ok(k);
     }
-    Spot::Lacking(Fault::Permission)
+    Err(Fault::Permission)
 }
 
 fn one_if(a: u32, h: u32) -> usize

@@ -12,9 +12,9 @@ ghost use Rattle.tables.specs.Layout.{most_names, frame_variables};
 ghost use Rattle.tables.specs.Decode.{left_at, right_at, atom_count};
 ghost use Rattle.tables.specs.Tables.{SideFits};
 ghost use Rattle.tables.specs.Stores.{meaning};
-ghost use Rattle.run_heap.specs.Views.{word_size, frame_holder, variable_at, saved_holder, saved_row, method_of, prepared, made, cell_value, class_in, first_in, cell_of, present, found_of, found, Halves, spot, read_in, PlainIs, fill, spot_is, read_is, Readable, view_of};
+ghost use Rattle.run_heap.specs.Views.{word_size, frame_holder, variable_at, saved_holder, saved_row, method_of, prepared, made, cell_value, class_in, first_in, cell_of, present, found_of, found, Halves, spot, read_in, PlainIs, fill, answered, Readable, view_of};
 
-pub use chains::{Cache, cache_of, cell_by, walk, walk_end, whole_by};
+pub use chains::{Cache, cache_of, cell_by, walk, walk_by, walk_end, whole_by};
 use holders::held_cell;
 pub use holders::{halves_held, hand_over};
 use rules::Machine;
@@ -51,19 +51,19 @@ impl Stores {
     pub const RESULT: usize = 14;
 
     pub const RESULT_AT: usize = Stores::RESULT * Stores::WORD_BYTES;
+
+    // Where a frame keeps the value of w, the number by which it holds, its row and its method.
+    pub const PARAMETER_AT: usize = Stores::WORD_BYTES;
+
+    pub const HOLDER_AT: usize = Stores::VARIABLES * Stores::WORD_BYTES;
+
+    pub const ROW_AT: usize = Stores::HOLDER_AT + Stores::WORD_BYTES;
+
+    pub const METHOD_AT: usize = Stores::ROW_AT + 2;
+
+    // Where an object keeps the number of its first cell, after its class.
+    pub const FIRST_AT: usize = 2;
 }
-
-// Where a frame keeps the value of w, the number by which it holds, its row and its method.
-const PARAMETER_AT: usize = Stores::WORD_BYTES;
-
-const HOLDER_AT: usize = Stores::VARIABLES * Stores::WORD_BYTES;
-
-const ROW_AT: usize = HOLDER_AT + Stores::WORD_BYTES;
-
-const METHOD_AT: usize = ROW_AT + 2;
-
-// Where an object keeps the number of its first cell, after its class.
-const FIRST_AT: usize = 2;
 
 // Why a step is not done.
 #[derive(Clone, Copy)]
@@ -74,20 +74,6 @@ pub enum Fault {
     Null,
     False,
     Overflow,
-}
-
-// The cell of a location.
-#[derive(Clone, Copy)]
-pub enum Spot {
-    At(usize),
-    Lacking(Fault),
-}
-
-// The value of an expression.
-#[derive(Clone, Copy)]
-pub enum Read {
-    Got(u32),
-    Lacking(Fault),
 }
 
 // A variable of the frame at b.
@@ -119,56 +105,57 @@ fn first_of(work: &[u8], i: usize) -> usize
     requires { (length work.now ≡ work_bytes) × (i < heap_objects) }
     ensures { (result ≡ first_in work.now i) × (result < half_values) }
 {
-    tables::half_at(work, Layout::OBJECTS + i * Layout::OBJECT_BYTES + FIRST_AT)
+    tables::half_at(
+        work,
+        Layout::OBJECTS + i * Layout::OBJECT_BYTES + Stores::FIRST_AT,
+    )
 }
 
 // The cell of the field named f of object i + 1.
-fn cell_at(work: &[u8], v: View, i: usize, f: usize) -> Spot
+fn cell_at(work: &[u8], v: View, i: usize, f: usize) -> Result<usize, Fault>
     requires { Readable work.now v × ((i < v.objects) × (f < most_names)) }
-    ensures { spot_is result ≡ present (cell_of work.now v.objects (suc i) f) }
+    ensures { answered result ≡ present (cell_of work.now v.objects (suc i) f) }
 {
     let c = class_of(work, i);
     let p = tables::place_at(work, c, f);
     if p == ClassAt::NO_PLACE {
-        return Spot::Lacking(Fault::Permission);
+        return Err(Fault::Permission);
     }
     let k = first_of(work, i) + p;
-    Spot::At(k)
+    Ok(k)
 }
 
 // The cell of a field of the object o.
-pub fn cell_of(work: &[u8], v: View, o: u32, f: usize) -> Spot
+pub fn cell_of(work: &[u8], v: View, o: u32, f: usize) -> Result<usize, Fault>
     requires { Readable work.now v × (f < most_names) }
-    ensures { spot_is result ≡ found_of work.now v.objects o f }
+    ensures { answered result ≡ found_of work.now v.objects o f }
 {
     if o == 0 {
-        return Spot::Lacking(Fault::Null);
+        return Err(Fault::Null);
     }
     let i = (o - 1) as usize;
     if v.objects <= i {
-        return Spot::Lacking(Fault::Permission);
+        return Err(Fault::Permission);
     }
     cell_at(work, v, i, f)
 }
 
 // The cell of `x.f`, whoever holds it.
-pub fn find(work: &[u8], v: View, x: usize, f: usize) -> Spot
+pub fn find(work: &[u8], v: View, x: usize, f: usize) -> Result<usize, Fault>
     requires { Readable work.now v × ((x < frame_variables) × (f < most_names)) }
-    ensures { spot_is result ≡ found work.now v x f }
+    ensures { answered result ≡ found work.now v x f }
 {
     let o = variable(work, v.base, x);
     cell_of(work, v, o, f)
 }
 
 // The cell of `x.f`, of which the view's number must hold n halves: "of a null is 25, of a location not in A .. 24".
-pub fn locate(work: &[u8], v: View, n: usize, x: usize, f: usize) -> Spot
+pub fn locate(work: &[u8], v: View, n: usize, x: usize, f: usize) -> Result<usize, Fault>
     requires { (Readable work.now v × Halves n) × ((x < frame_variables) × (f < most_names)) }
-    ensures { spot_is result ≡ spot work.now v n x f }
+    ensures { answered result ≡ spot work.now v n x f }
 {
-    match find(work, v, x, f) {
-        Spot::At(k) => held_cell(work, v.holder, n, k),
-        Spot::Lacking(s) => Spot::Lacking(s),
-    }
+    let k = find(work, v, x, f)?;
+    held_cell(work, v.holder, n, k)
 }
 
 // The value of an expression that is no path.
@@ -185,31 +172,29 @@ fn plain(work: &[u8], v: View, e: Expr) -> u32
 }
 
 // "reading a path needs its location in A"; W8: "Reading needs one half"
-fn value(work: &[u8], v: View, e: Expr) -> Read
+fn value(work: &[u8], v: View, e: Expr) -> Result<u32, Fault>
     requires { Readable work.now v × SideFits (meaning e) }
-    ensures { read_is result ≡ read_in work.now v (meaning e) }
+    ensures { answered result ≡ read_in work.now v (meaning e) }
 {
     let Expr::Path(x, f) = e else {
-        return Read::Got(plain(work, v, e));
+        return Ok(plain(work, v, e));
     };
-    match locate(work, v, Stores::HALF, x, f) {
-        Spot::At(k) => Read::Got(cell_value(work, k)),
-        Spot::Lacking(s) => Read::Lacking(s),
-    }
+    let k = locate(work, v, Stores::HALF, x, f)?;
+    Ok(cell_value(work, k))
 }
 
 // The value of the left side of the atom a.
-pub fn left(work: &[u8], v: View, a: usize) -> Read
+pub fn left(work: &[u8], v: View, a: usize) -> Result<u32, Fault>
     requires { Readable work.now v × (a < atom_count work.now) }
-    ensures { read_is result ≡ read_in work.now v (left_at work.now a) }
+    ensures { answered result ≡ read_in work.now v (left_at work.now a) }
 {
     value(work, v, tables::left_at(work, a))
 }
 
 // The value of its right side.
-pub fn right(work: &[u8], v: View, a: usize) -> Read
+pub fn right(work: &[u8], v: View, a: usize) -> Result<u32, Fault>
     requires { Readable work.now v × (a < atom_count work.now) }
-    ensures { read_is result ≡ read_in work.now v (right_at work.now a) }
+    ensures { answered result ≡ read_in work.now v (right_at work.now a) }
 {
     value(work, v, tables::right_at(work, a))
 }
@@ -219,10 +204,8 @@ pub fn fill_words(work: &mut [u8], at: usize, n: usize, v: u32)
     requires { at + n * word_size ≤ length work.old }
     ensures { work.new ≡ fill work.old at n v }
 {
-    let mut i = 0;
-    while i < n {
+    for i in 0..n {
         tables::put_word(work, at + i * Stores::WORD_BYTES, v);
-        i += 1;
     }
 }
 
@@ -243,21 +226,30 @@ pub fn saved_holder(work: &[u8], i: usize) -> u32
     requires { (length work.now ≡ work_bytes) × (i < most_frames) }
     ensures { result ≡ saved_holder work.now i }
 {
-    tables::word_at(work, Layout::FRAMES + i * Layout::FRAME_BYTES + HOLDER_AT)
+    tables::word_at(
+        work,
+        Layout::FRAMES + i * Layout::FRAME_BYTES + Stores::HOLDER_AT,
+    )
 }
 
 pub fn saved_row(work: &[u8], i: usize) -> usize
     requires { (length work.now ≡ work_bytes) × (i < most_frames) }
     ensures { (result ≡ saved_row work.now i) × (result < half_values) }
 {
-    tables::half_at(work, Layout::FRAMES + i * Layout::FRAME_BYTES + ROW_AT)
+    tables::half_at(
+        work,
+        Layout::FRAMES + i * Layout::FRAME_BYTES + Stores::ROW_AT,
+    )
 }
 
 pub fn method_of(work: &[u8], i: usize) -> usize
     requires { (length work.now ≡ work_bytes) × (i < most_frames) }
     ensures { result ≡ method_of work.now i }
 {
-    tables::byte_at(work, Layout::FRAMES + i * Layout::FRAME_BYTES + METHOD_AT)
+    tables::byte_at(
+        work,
+        Layout::FRAMES + i * Layout::FRAME_BYTES + Stores::METHOD_AT,
+    )
 }
 
 // The place of the next frame, and what the running one must keep.
@@ -271,10 +263,10 @@ pub fn prepare(work: &mut [u8], c: Machine, m: usize, o: u32, p: u32)
     let b = Layout::FRAMES + j * Layout::FRAME_BYTES;
     fill_words(work, b, Stores::VARIABLES, 0);
     tables::put_word(work, b, o);
-    tables::put_word(work, b + PARAMETER_AT, p);
-    tables::put_word(work, a + HOLDER_AT, c.holder);
-    tables::put_half(work, a + ROW_AT, c.row as usize);
-    tables::put_byte(work, b + METHOD_AT, m);
+    tables::put_word(work, b + Stores::PARAMETER_AT, p);
+    tables::put_word(work, a + Stores::HOLDER_AT, c.holder);
+    tables::put_half(work, a + Stores::ROW_AT, c.row as usize);
+    tables::put_byte(work, b + Stores::METHOD_AT, m);
 }
 
 // Object number `objects` + 1, of a class with n fields, which are the running frame's, both halves.
@@ -286,7 +278,7 @@ pub fn make_object(work: &mut [u8], c: Machine, class: usize, n: usize)
     let k = c.fields as usize;
     let at = Layout::OBJECTS + i * Layout::OBJECT_BYTES;
     tables::put_byte(work, at, class);
-    tables::put_half(work, at + FIRST_AT, k);
+    tables::put_half(work, at + Stores::FIRST_AT, k);
     fill_words(work, Layout::VALUES + k * Stores::WORD_BYTES, n, 0);
     fill_words(
         work,

@@ -2,11 +2,11 @@
 // difference foretells, the processor goes on to it and need not wait for the value that says so.
 ghost use Rattle.std.specs.Prelude.{◌≡◌, suc, ◌<◌, true};
 ghost use Rattle.tables.specs.Layout.{most_names};
-ghost use Rattle.run_heap.specs.Views.{Readable, read_is};
+ghost use Rattle.run_heap.specs.Views.{Readable, answered};
 ghost use Rattle.run_heap.specs.Chains.{Caches, walk_in, Reaches};
 
 use crate::chains::{cache_of, walk_end, whole_by};
-use crate::{Cache, Fault, Read, Spot, View, cell_value};
+use crate::{Cache, Fault, View, cell_value};
 
 // Where a walk is: the next object, the last one passed, and how many were.
 #[derive(Clone, Copy)]
@@ -25,8 +25,9 @@ fn stride(work: &[u8], v: View, c: Cache, f: usize, from: Reached, d: u32) -> Re
     let mut last = from.last;
     let mut i = from.passed;
     let n = v.objects;
+    // A while: how many were passed is part of the answer, at each exit.
     while i <= n {
-        let Spot::At(k) = whole_by(work, v, c, f, at) else {
+        let Ok(k) = whole_by(work, v, c, f, at) else {
             return Reached {
                 at: at,
                 last: last,
@@ -54,30 +55,24 @@ fn stride(work: &[u8], v: View, c: Cache, f: usize, from: Reached, d: u32) -> Re
 }
 
 // `walk`, in strides.
-pub fn walk_strided(work: &[u8], v: View, f: usize, o: u32) -> Read
+pub fn walk_strided(work: &[u8], v: View, f: usize, o: u32) -> Result<u32, Fault>
     requires { Readable work.now v × (f < most_names) }
-    ensures { read_is result ≡ walk_in work.now v (λ _. true) f (suc v.objects) o 0 }
+    ensures { answered result ≡ walk_in work.now v (λ _. true) f (suc v.objects) o 0 }
 {
     let c = cache_of(work, v, f, o);
-    let mut last = 0;
-    let mut at = o;
+    let mut from = Reached {
+        at: o,
+        last: 0,
+        passed: 0,
+    };
     let mut d = 1;
-    let n = v.objects;
-    let mut i = 0;
-    while i <= n {
-        let from = Reached {
-            at: at,
-            last: last,
-            passed: i,
-        };
+    while from.passed <= v.objects {
         let r = stride(work, v, c, f, from, d);
-        if r.passed == i {
+        if r.passed == from.passed {
             return walk_end(r.at, r.last);
         }
-        last = r.last;
-        at = r.at;
-        d = std::num::wrapping_sub_u32(last, at);
-        i = r.passed;
+        d = std::num::wrapping_sub_u32(r.last, r.at);
+        from = r;
     }
-    Read::Lacking(Fault::False)
+    Err(Fault::False)
 }

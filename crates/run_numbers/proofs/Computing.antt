@@ -1,5 +1,5 @@
 -- What is computed, by the test that the code does.
-use mathlib.Core.Path.{◌≡◌, sym, ap, ◌∙◌}
+use mathlib.Core.Path.{◌≡◌, refl, sym, ap, ◌∙◌}
 use mathlib.Core.Bool.{true, false}
 use Prim.Native.Nat.{ℕ, zero, suc, ◌+◌, ◌-◌, ◌*◌, ◌/◌, ◌%◌, ◌≤◌, ◌<◌}
 use native.Mathlib.Omega.{arith}
@@ -7,18 +7,28 @@ use Rattle.rules.specs.Base.{Try, ok, no, check, ◌>>◌}
 use Rattle.rules.specs.Answers.{Stop, overflow}
 use Rattle.rules.specs.Syntax.{Operation, sum, difference, words, sign, offset}
 use Rattle.rules.specs.Machine.{raised, in_range, computed}
-use Rattle.run_numbers.specs.declared.Computed.{Computed}
+use Rattle.std.specs.Prelude.{Option, Some, None, Ok, Err, ok_or}
 use Rattle.run_numbers.specs.Computing.{computed_is}
 
 -- what the answer says of it
-module _ (r : Computed) {t : Try Stop ℕ} (is : computed_is r ≡ t) where
-  pub has_value : (n : ℕ) → r ≡ Computed.Value n → t ≡ ok n
+module _ (r : Option ℕ) {t : Try Stop ℕ} (is : computed_is r ≡ t) where
+  pub has_value : (n : ℕ) → r ≡ Some n → t ≡ ok n
   unfolding computed_is
   has_value n e = sym is ∙ ap computed_is e
 
-  pub has-none : r ≡ Computed.Overflow → t ≡ no overflow
+  pub has-none : r ≡ None → t ≡ no overflow
   unfolding computed_is
   has-none e = sym is ∙ ap computed_is e
+
+-- and where it is asked for a value or else d
+module _ {E : Type 0} (d : E) where
+  pub value_asked : (r : Option ℕ) (n : ℕ) → ok_or r d ≡ Ok n → r ≡ Some n
+  value_asked None n e = absurd (cc)
+  value_asked (Some k) n e = cc
+
+  pub none-asked : (r : Option ℕ) (x : E) → ok_or r d ≡ Err x → (r ≡ None) × (x ≡ d)
+  none-asked None x e = (refl, cc)
+  none-asked (Some k) x e = absurd (cc)
 
 module _ (o : Operation) (v w n : ℕ) (is : n ≡ raised o v w) where
   pub computed_value : in_range n ≡ true → {r : ℕ} → r ≡ raised o v w % words → ok r ≡ computed o v w

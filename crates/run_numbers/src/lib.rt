@@ -14,13 +14,6 @@ const WORDS: u64 = 4294967296;
 
 const SIGN: u64 = 2147483648;
 
-// The result's 32 bits, or that it is beyond "32 bits signed".
-#[derive(Clone, Copy)]
-pub enum Computed {
-    Value(u32),
-    Overflow,
-}
-
 // A number by its 32 bits, plus 2^31.
 fn offset(v: u32) -> u64
     ensures { (result ≡ offset v) × (result < words) }
@@ -38,26 +31,26 @@ fn in_range(n: u64) -> bool
 }
 
 // The 32 bits of a sum do not wait for the test of its range, which goes by the sum plus 2^32.
-fn add(v: u32, w: u32) -> Computed
+fn add(v: u32, w: u32) -> Option<u32>
     ensures { computed_is result ≡ computed sum v w }
 {
     if in_range(offset(v) + offset(w)) {
-        return Computed::Value(((v as u64 + w as u64) % WORDS) as u32);
+        return Some(((v as u64 + w as u64) % WORDS) as u32);
     }
-    Computed::Overflow
+    None
 }
 
-fn subtract(v: u32, w: u32) -> Computed
+fn subtract(v: u32, w: u32) -> Option<u32>
     ensures { computed_is result ≡ computed difference v w }
 {
     if in_range(offset(v) + (WORDS - offset(w))) {
-        return Computed::Value(((v as u64 + (WORDS - w as u64)) % WORDS) as u32);
+        return Some(((v as u64 + (WORDS - w as u64)) % WORDS) as u32);
     }
-    Computed::Overflow
+    None
 }
 
-// "A result beyond 32 bits signed stops the run".
-pub fn compute(kind: u8, v: u32, w: u32) -> Computed
+// The result's 32 bits, or `None`: "A result beyond 32 bits signed stops the run".
+pub fn compute(kind: u8, v: u32, w: u32) -> Option<u32>
     ensures { computed_is result ≡ computed (operation_of kind) v w }
 {
     if kind == Kind::ADD {

@@ -21,7 +21,8 @@ use Rattle.tables.proofs.Decoding.{program-same}
 use Rattle.run_heap.specs.declared.Fault.{Fault}
 use Rattle.run_heap.specs.declared.View.{View}
 use Rattle.run_heap.specs.Views.{frame_at, variable_at, view_of}
-use Rattle.run_steps.specs.declared.Turn.{Turn}
+use Rattle.std.specs.Prelude.{Some, None, Ok, Err}
+use Rattle.run_steps.specs.States.{Turn}
 use Rattle.run_steps.specs.States.{Represents, Follows, Does, CanStep}
 use Rattle.run_returns.specs.Returns.{source_of, back_here, end_here}
 use Rattle.run_footprint.proofs.Regions.{only-word, only-tables}
@@ -139,8 +140,8 @@ module _ {w : List ℕ} {c : Machine} (ready : CanStep w c) where
       same_after : SameTables w w₂
       same_after = same-trans same-put D.tables
 
-      pub return-goes : (d : Machine) → t ≡ Turn.On d → Does w c w₂ (Turn.On d) (back_here w c)
-      return-goes d e = record { tables = same_after; follows = λ m R. followed m R (Turn.On d) e }
+      pub return-goes : (d : Machine) → t ≡ Ok (Some d) → Does w c w₂ (Ok (Some d)) (back_here w c)
+      return-goes d e = record { tables = same_after; follows = λ m R. followed m R (Ok (Some d)) e }
 
       pub size-after : length w₂ ≡ work_bytes
       size-after = omega (arith, same_after.size, size ready)
@@ -163,13 +164,13 @@ module _ {w : List ℕ} {c : Machine} (ready : CanStep w c) where
             let b = subst (λ (o : ℕ). resulting o (resulting n m) ≡ m) (sym (old-is m R)) (as_before R n) in
             subst (λ u. Represents u c m) (sym put-back-is) (subst (Represents (put_word w₂ (result_at c) old) c) b (result-put S old lo))
 
-        pub return-stops : (s : Fault) → t ≡ Turn.Stopped s → Does w c w₃ (Turn.Stopped s) (back_here w c)
+        pub return-stops : (s : Fault) → t ≡ Err s → Does w c w₃ (Err s) (back_here w c)
         return-stops s e =
             record {
               tables = same-restored;
-              follows = λ m R. let F = followed m R (Turn.Stopped s) e in (F.0, restored m R F.1);
+              follows = λ m R. let F = followed m R (Err s) e in (F.0, restored m R F.1);
             }
 
-        pub return-ends : t ≡ Turn.Done → Does w c w₃ Turn.Done (back_here w c)
+        pub return-ends : t ≡ Ok None → Does w c w₃ (Ok None) (back_here w c)
         return-ends e =
-            record { tables = same-restored; follows = λ m R. let F = followed m R Turn.Done e in (F.0, restored m R F.1) }
+            record { tables = same-restored; follows = λ m R. let F = followed m R (Ok None) e in (F.0, restored m R F.1) }

@@ -21,7 +21,7 @@ use Rattle.tables.proofs.Statements.{call-means}
 use Rattle.tables.proofs.BytesRead.{same-trans, same_refl}
 use Rattle.tables.proofs.Decoding.{tables-same, rows-count-same, kind-same}
 use Rattle.run_heap.specs.declared.Fault.{Fault}
-use Rattle.run_steps.specs.declared.Turn.{Turn}
+use Rattle.std.specs.Prelude.{Some, None, Ok, Err}
 use Rattle.run_heap.specs.declared.View.{View}
 use Rattle.run_heap.specs.Views.{frame_at, variable_at, saved_holder, saved_row, method_of, halves_of, view_of, stop_of}
 use Rattle.run_footprint.specs.Footprints.{spread, take_in, marked, SharesFit}
@@ -116,7 +116,7 @@ module _ {w : List ℕ} {c : Machine} {h : _} {F C : Frame} {Cs : List Frame}
       x_at w (saved_row w (length Cs)) < frame_variables →
       take_in w (view_of c) (ensures_at w (method_of w (suc (length Cs)))) [] ≡ ok ss →
       Follows (put_word (marked w (spread w c.objects ss) c.holder (saved_holder w (length Cs))) (frame_at (length Cs) + x_at w (saved_row w (length Cs)) * 4) v) c
-      (Turn.On (back c (saved_holder w (length Cs)) (saved_row w (length Cs) + 1)))
+      (Ok (Some (back c (saved_holder w (length Cs)) (saved_row w (length Cs) + 1))))
       (record { heap = h; frame = F; callers = C ∷ Cs })
       (end_step (program_in w) (record { heap = h; frame = F; callers = C ∷ Cs }) (C ∷ Cs))
   unfolding end_step returned with_frame advance bind holding ◌>>=◌ row_at statement_of statement_number
@@ -141,7 +141,7 @@ module _ {w : List ℕ} {c : Machine} {h : _} {F C : Frame} {Cs : List Frame}
 
   returns-stop :
       (s : Fault) → take_in w (view_of c) (ensures_at w (method_of w (suc (length Cs)))) [] ≡ no (stop_of s) →
-      Follows w c (Turn.Stopped s) (record { heap = h; frame = F; callers = C ∷ Cs })
+      Follows w c (Err s) (record { heap = h; frame = F; callers = C ∷ Cs })
       (end_step (program_in w) (record { heap = h; frame = F; callers = C ∷ Cs }) (C ∷ Cs))
   unfolding end_step ◌>>=◌
   returns-stop s e =
@@ -152,13 +152,13 @@ module _ {w : List ℕ} {c : Machine} {h : _} {F C : Frame} {Cs : List Frame}
 
 -- THE CODE
 module _ {w : List ℕ} {c : Machine} (ready : CanStep w c) where
-  pub end-done : c.frames ≡ 1 → Does w c w Turn.Done (end_here w)
+  pub end-done : c.frames ≡ 1 → Does w c w (Ok None) (end_here w)
   unfolding end_step
   end-done e = record { tables = same_refl w; follows = λ m R. go m.heap m.frame m.callers R }
     where
       go :
           (h : Heap) (F : Frame) (Fs : List Frame) → Represents w c (record { heap = h; frame = F; callers = Fs }) →
-          Follows w c Turn.Done (record { heap = h; frame = F; callers = Fs }) (end_step (program_in w) (record { heap = h; frame = F; callers = Fs }) Fs)
+          Follows w c (Ok None) (record { heap = h; frame = F; callers = Fs }) (end_step (program_in w) (record { heap = h; frame = F; callers = Fs }) Fs)
       go h F [] R = (refl, R)
       go h F (C ∷ Cs) R = absurd (omega (arith, R.frames))
 
@@ -177,12 +177,12 @@ module _ {w : List ℕ} {c : Machine} (ready : CanStep w c) where
 
     pub end-stops :
         (s : Fault) → take_in w (view_of c) (ensures_at w (method_of w (c.frames - 1))) [] ≡ no (stop_of s) →
-        Does w c w (Turn.Stopped s) (end_here w)
+        Does w c w (Err s) (end_here w)
     end-stops s e = record { tables = same_refl w; follows = λ m R. go m.heap m.frame m.callers R }
       where
         go :
             (h : Heap) (F : Frame) (Fs : List Frame) → Represents w c (record { heap = h; frame = F; callers = Fs }) →
-            Follows w c (Turn.Stopped s) (record { heap = h; frame = F; callers = Fs }) (end_step (program_in w) (record { heap = h; frame = F; callers = Fs }) Fs)
+            Follows w c (Err s) (record { heap = h; frame = F; callers = Fs }) (end_step (program_in w) (record { heap = h; frame = F; callers = Fs }) Fs)
         go h F [] R = absurd (many R.frames)
         go h F (C ∷ Cs) R =
             let j : suc (length Cs) ≡ c.frames - 1 = omega (arith, R.frames) in
@@ -207,7 +207,7 @@ module _ {w : List ℕ} {c : Machine} (ready : CanStep w c) where
         take_in w (view_of c) (ensures_at w (method_of w (c.frames - 1))) [] ≡ ok ss → n ≡ saved_holder w (c.frames - 2) → n < 4294967296 →
         r ≡ saved_row w (c.frames - 2) → x ≡ x_at w r → v ≡ variable_at w (frame_at (c.frames - 1)) result_variable → v < 4294967296 →
         w' ≡ put_word (marked w (spread w c.objects ss) c.holder n) (frame_at (c.frames - 2) + x * 4) v → d ≡ back c n (r + 1) →
-        Does w c w' (Turn.On d) (end_here w)
+        Does w c w' (Ok (Some d)) (end_here w)
     leave-does ss n r x v {w'} {d} e en ln er ex ev lv p q =
         does-on p q
         (same-trans (only-tables (only-marked w (spread w c.objects ss) c.holder n (end_fits ss e)) (omega arith))
@@ -222,7 +222,7 @@ module _ {w : List ℕ} {c : Machine} (ready : CanStep w c) where
 
         go :
             (h : Heap) (F : Frame) (Fs : List Frame) → Represents w c (record { heap = h; frame = F; callers = Fs }) →
-            Follows (put_word (marked w (spread w c.objects ss) c.holder n) (frame_at (c.frames - 2) + x * 4) v) c (Turn.On (back c n (r + 1)))
+            Follows (put_word (marked w (spread w c.objects ss) c.holder n) (frame_at (c.frames - 2) + x * 4) v) c (Ok (Some (back c n (r + 1))))
             (record { heap = h; frame = F; callers = Fs }) (end_step (program_in w) (record { heap = h; frame = F; callers = Fs }) Fs)
         go h F [] R = absurd (many R.frames)
         go h F (C ∷ Cs) R =

@@ -7,7 +7,7 @@ ghost use Rattle.rules.specs.Limits.{work_bytes, most_statements};
 ghost use Rattle.run_returns.specs.Returns.{Leaving, back, source_of, back_here, end_here};
 
 use rules::{Kind, Machine};
-use run_footprint::{Shares, Took};
+use run_footprint::Shares;
 use run_heap::Stores;
 use run_steps::Turn;
 use tables::Layout;
@@ -41,7 +41,7 @@ fn leave(work: &mut [u8], c: Machine, shares: &Shares, n: usize) -> Turn
     let x = tables::x_at(work, row);
     run_footprint::mark(work, run_heap::view_of(c), shares, n, holder);
     tables::put_word(work, at + x * Stores::WORD_BYTES, result);
-    Turn::On(back_in(c, holder, row as u32 + 1))
+    Ok(Some(back_in(c, holder, row as u32 + 1)))
 }
 
 // `end`: "ensures, then the caller gains its footprint, and x the result; the rest of that A is lost".
@@ -50,7 +50,7 @@ fn end_step(work: &mut [u8], c: Machine) -> Turn
     ensures { Does work.old c work.new result (end_here work.old) }
 {
     if c.frames == 1 {
-        return Turn::Done;
+        return Ok(None);
     }
     let i = (c.frames - 1) as usize;
     let v = run_heap::view_of(c);
@@ -58,10 +58,8 @@ fn end_step(work: &mut [u8], c: Machine) -> Turn
     let first = tables::ensures_first(work, m);
     let n = tables::ensures_count(work, m);
     let mut shares = [0usize; run_footprint::SHARES];
-    match run_footprint::footprint(work, v, first, n, &mut shares) {
-        Took::Shares(k) => leave(work, c, &shares, k),
-        Took::Lacking(s) => Turn::Stopped(s),
-    }
+    let k = run_footprint::footprint(work, v, first, n, &mut shares)?;
+    leave(work, c, &shares, k)
 }
 
 // The variable that is the result: of a `return` its x, of an `end` the result as it is.
@@ -89,14 +87,14 @@ pub fn back_step(work: &mut [u8], c: Machine) -> Turn
     let n = run_heap::variable(work, b, x);
     tables::put_word(work, b + Stores::RESULT_AT, n);
     match end_step(work, c) {
-        Turn::On(d) => Turn::On(d),
-        Turn::Stopped(s) => {
+        Ok(Some(d)) => Ok(Some(d)),
+        Ok(None) => {
             tables::put_word(work, b + Stores::RESULT_AT, old);
-            Turn::Stopped(s)
+            Ok(None)
         }
-        Turn::Done => {
+        Err(s) => {
             tables::put_word(work, b + Stores::RESULT_AT, old);
-            Turn::Done
+            Err(s)
         }
     }
 }

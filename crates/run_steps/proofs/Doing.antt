@@ -20,7 +20,8 @@ use Rattle.tables.specs.Stores.{SameTables, put_word}
 use Rattle.tables.proofs.BytesRead.{same_refl}
 use Rattle.run_heap.specs.declared.View.{View}
 use Rattle.run_heap.specs.declared.Fault.{Fault}
-use Rattle.run_steps.specs.declared.Turn.{Turn}
+use Rattle.std.specs.Prelude.{Some, Ok, Err}
+use Rattle.run_steps.specs.States.{Turn}
 use Rattle.run_heap.specs.Views.{frame_at, variable_at, cell_value, halves_at, spot, read_in, view_of, stop_of, Readable, frame_holder}
 use Rattle.run_heap.specs.Chains.{walk_in}
 use Rattle.run_footprint.specs.Footprints.{test_in, spread, take_in, marked, SharesFit}
@@ -35,16 +36,20 @@ use Rattle.run_steps.proofs.Steps as Steps
 -- THE TWO ANSWERS
 pub does-on :
     {w w' w'' : List ℕ} {c d d' : Machine} {f : Config → Step} → w' ≡ w'' → d ≡ d' → SameTables w w'' →
-    ((m : Config) → Represents w c m → Follows w'' c (Turn.On d') m (f m)) → Does w c w' (Turn.On d) f
+    ((m : Config) → Represents w c m → Follows w'' c (Ok (Some d')) m (f m)) → Does w c w' (Ok (Some d)) f
 does-on {w} {w'} {w''} {c} {d} {d'} {f} e q t h =
     record {
       tables = subst (SameTables w) (sym e) t;
-      follows = λ m R. subst (λ u. Follows u c (Turn.On d) m (f m)) (sym e) (subst (λ g. Follows w'' c (Turn.On g) m (f m)) (sym q) (h m R));
+      follows = λ m R. subst (λ u. Follows u c (Ok (Some d)) m (f m)) (sym e) (subst (λ g. Follows w'' c (Ok (Some g)) m (f m)) (sym q) (h m R));
     }
 
+-- a step's answer, known
+pub does-answer : {w w' : List ℕ} {c : Machine} {r t : Turn} {f : Config → Step} → r ≡ t → Does w c w' r f → Does w c w' t f
+does-answer {w} {w'} {c} {r} {t} {f} e D = subst (λ (u : Turn). Does w c w' u f) e D
+
 pub does-stop :
-    {w : List ℕ} {c : Machine} {f : Config → Step} (s : Fault) → ((m : Config) → Represents w c m → Follows w c (Turn.Stopped s) m (f m)) →
-    Does w c w (Turn.Stopped s) f
+    {w : List ℕ} {c : Machine} {f : Config → Step} (s : Fault) → ((m : Config) → Represents w c m → Follows w c (Err s) m (f m)) →
+    Does w c w (Err s) f
 does-stop {w} s h = record { tables = same_refl w; follows = h }
 
 module _ {w : List ℕ} {c : Machine} (ready : CanStep w c) where
@@ -82,12 +87,12 @@ module _ {w : List ℕ} {c : Machine} (ready : CanStep w c) where
 
   pub assert-does :
       (ss : List ℕ) {d : Machine} → NotEnd w c → take_in w (view_of c) (formula_at w c.row) [] ≡ ok ss → d ≡ stepped c (c.row + 1) →
-      Does w c w (Turn.On d) (assert_here w c)
+      Does w c w (Ok (Some d)) (assert_here w c)
   assert-does ss n e q = does-on refl q (same_refl w) (λ m R. Moves.assert-on R _ ss (Moves.row-formula-ok R) n e)
 
   pub assert-stops :
       (s : Fault) → take_in w (view_of c) (formula_at w c.row) [] ≡ no (stop_of s) →
-      Does w c w (Turn.Stopped s) (assert_here w c)
+      Does w c w (Err s) (assert_here w c)
   assert-stops s e = does-stop s (λ m R. Moves.assert-stop R _ s (Moves.row-formula-ok R) e)
 
   -- the shares that a formula took
@@ -104,18 +109,18 @@ module _ {w : List ℕ} {c : Machine} (ready : CanStep w c) where
   pub release-does :
       (ss : List ℕ) {w' : List ℕ} {d : Machine} → NotEnd w c → take_in w (view_of c) (formula_at w c.row) [] ≡ ok ss →
       w' ≡ marked w (spread w c.objects ss) c.holder 0 →
-      d ≡ stepped c (c.row + 1) → Does w c w' (Turn.On d) (release_here w c)
+      d ≡ stepped c (c.row + 1) → Does w c w' (Ok (Some d)) (release_here w c)
   release-does ss n e p q =
       does-on p q (only-tables (only-marked w (spread w c.objects ss) c.holder 0 (taken-fit ss e)) (omega arith))
       (λ m R. Steps.release-on R _ ss (Moves.row-formula-ok R) n e)
 
   pub release-stops :
       (s : Fault) → take_in w (view_of c) (formula_at w c.row) [] ≡ no (stop_of s) →
-      Does w c w (Turn.Stopped s) (release_here w c)
+      Does w c w (Err s) (release_here w c)
   release-stops s e = does-stop s (λ m R. Steps.release-stop R _ s (Moves.row-formula-ok R) e)
 
   -- BRANCHES AND LOOPS
-  pub jump-does : {d : Machine} → Jumps w c → d ≡ stepped c (target_at w c.row) → Does w c w (Turn.On d) (jump_here w c)
+  pub jump-does : {d : Machine} → Jumps w c → d ≡ stepped c (target_at w c.row) → Does w c w (Ok (Some d)) (jump_here w c)
   jump-does k q = does-on refl q (same_refl w) (λ m R. Moves.jump-on R k)
 
   pub if-atom : AtKind w c If → first_atom_at w c.row < atom_count w
@@ -123,13 +128,13 @@ module _ {w : List ℕ} {c : Machine} (ready : CanStep w c) where
   if-atom k = omega (arith, fits.atoms.1, fits.one_atom (inr k))
 
   module _ (k : Chooses w c) (v : View) (a : ℕ) (l : a < atom_count w) (ev : v ≡ view_of c) where
-    pub if-holds : {d : Machine} → test_in w v a ≡ ok true → d ≡ stepped c (c.row + 1) → Does w c w (Turn.On d) (if_on w a)
+    pub if-holds : {d : Machine} → test_in w v a ≡ ok true → d ≡ stepped c (c.row + 1) → Does w c w (Ok (Some d)) (if_on w a)
     if-holds e q = does-on refl q (same_refl w) (λ m R. Moves.if-true R a l k (rw (← ev) e))
 
-    pub if-fails : {d : Machine} → test_in w v a ≡ ok false → d ≡ stepped c (target_at w c.row) → Does w c w (Turn.On d) (if_on w a)
+    pub if-fails : {d : Machine} → test_in w v a ≡ ok false → d ≡ stepped c (target_at w c.row) → Does w c w (Ok (Some d)) (if_on w a)
     if-fails e q = does-on refl q (same_refl w) (λ m R. Moves.if-false R a l k (rw (← ev) e))
 
-    pub if-stops : (s : Fault) → test_in w v a ≡ no (stop_of s) → Does w c w (Turn.Stopped s) (if_on w a)
+    pub if-stops : (s : Fault) → test_in w v a ≡ no (stop_of s) → Does w c w (Err s) (if_on w a)
     if-stops s e = does-stop s (λ m R. Moves.if-stop R a l s (rw (← ev) e))
 
   -- the condition of a loop is the atom before its invariant
@@ -146,7 +151,7 @@ module _ {w : List ℕ} {c : Machine} (ready : CanStep w c) where
         follows = λ m R. subst (Follows w c r m) (rw ea (sym (Moves.loop-is R _ ss e))) (D.follows m R);
       }
 
-  pub loop-stops : (s : Fault) → take_in w (view_of c) (formula_at w c.row) [] ≡ no (stop_of s) → Does w c w (Turn.Stopped s) (loop_here w c)
+  pub loop-stops : (s : Fault) → take_in w (view_of c) (formula_at w c.row) [] ≡ no (stop_of s) → Does w c w (Err s) (loop_here w c)
   loop-stops s e = does-stop s (λ m R. Moves.loop-stop R _ s e)
 
   -- VARIABLES
@@ -158,7 +163,7 @@ module _ {w : List ℕ} {c : Machine} (ready : CanStep w c) where
     pub let-does :
         (x n : ℕ) {w' : List ℕ} {d : Machine} → x ≡ x_at w c.row → n < 4294967296 → read_in w v (right_at w a) ≡ ok n →
         w' ≡ put_word w (v.base + x * 4) n → d ≡ stepped c (c.row + 1) →
-        Does w c w' (Turn.On d) (let_here w c)
+        Does w c w' (Ok (Some d)) (let_here w c)
     unfolding statement_number
     let-does x n ex ln e p q =
         does-on (p ∙ rw (ev, ex)) q (frame-words (x_at w c.row) fits.x n)
@@ -168,7 +173,7 @@ module _ {w : List ℕ} {c : Machine} (ready : CanStep w c) where
 
     pub let-stops :
         (s : Fault) → read_in w v (right_at w a) ≡ no (stop_of s) →
-        Does w c w (Turn.Stopped s) (let_here w c)
+        Does w c w (Err s) (let_here w c)
     let-stops s e =
         does-stop s
         (λ m R. Steps.assign-stop R (x_at w c.row) _ s (R.tables.atom_fits _ (let-atom k)).right (rw (← ev, ← ea) e))
@@ -190,14 +195,14 @@ module _ {w : List ℕ} {c : Machine} (ready : CanStep w c) where
     pub compute-does :
         (x n : ℕ) {w' : List ℕ} {d : Machine} → x ≡ x_at w c.row → n < 4294967296 → computed (operation_of k) n₁ n₂ ≡ ok n →
         w' ≡ put_word w (v.base + x * 4) n → d ≡ stepped c (c.row + 1) →
-        Does w c w' (Turn.On d) (compute_here w c)
+        Does w c w' (Ok (Some d)) (compute_here w c)
     compute-does x n ex ln e p q =
         does-on (p ∙ rw (ev, ex)) q (frame-words (x_at w c.row) fits.x n)
         (λ m R. Steps.compute-on R _ (x_at w c.row) _ _ fits.y fits.z n fits.x ln not_end (sym read-so ∙ e))
 
     pub compute-stops :
         computed (operation_of k) n₁ n₂ ≡ no overflow →
-        Does w c w (Turn.Stopped Fault.Overflow) (compute_here w c)
+        Does w c w (Err Fault.Overflow) (compute_here w c)
     compute-stops e =
         does-stop Fault.Overflow
         (λ m R. Steps.compute-stop R _ (x_at w c.row) _ _ fits.y fits.z (sym read-so ∙ e))
@@ -214,7 +219,7 @@ module _ {w : List ℕ} {c : Machine} (ready : CanStep w c) where
     pub set_does :
         (j y n : ℕ) {w' : List ℕ} {d : Machine} → spot w v 2 x f ≡ ok j → y ≡ y_at w c.row → n < 4294967296 →
         n ≡ variable_at w v.base y → w' ≡ put_word w (values_at + j * 4) n → d ≡ stepped c (c.row + 1) →
-        Does w c w' (Turn.On d) (set_here w c)
+        Does w c w' (Ok (Some d)) (set_here w c)
     unfolding statement_number
     set_does j y n e ey ln en p q =
         let l : j < heap_fields = set-small j e in
@@ -225,7 +230,7 @@ module _ {w : List ℕ} {c : Machine} (ready : CanStep w c) where
 
     pub set-stops :
         (s : Fault) → spot w v 2 x f ≡ no (stop_of s) →
-        Does w c w (Turn.Stopped s) (set_here w c)
+        Does w c w (Err s) (set_here w c)
     set-stops s e = does-stop s (λ m R. Steps.set-stop R (x_at w c.row) _ _ s fits.x (rw (← ev, ← ex, ← ef) e))
 
 -- the walk that the code does
@@ -243,7 +248,7 @@ module _ {w : List ℕ} {c : Machine} (ready : CanStep w c) (k : AtKind w c Open
 
   pub open-stops :
       (x f : ℕ) (s : Fault) → x ≡ y_at w c.row → f ≡ member_at w c.row → spot w v 2 x f ≡ no (stop_of s) →
-      Does w c w (Turn.Stopped s) (open_here w c)
+      Does w c w (Err s) (open_here w c)
   open-stops x f s ex ef e = does-stop s (λ m R. Steps.open-stop R _ _ _ s (fits ready).y (rw (← ev, ← ex, ← ef) e))
 
 pub open-small : {w : List ℕ} {c : Machine} {f k : ℕ} → Opening w c f k → k < heap_fields
@@ -256,7 +261,7 @@ module _ {w : List ℕ} {c : Machine} {f k : ℕ} (O : Opening w c f k) (v : Vie
   pub open-does :
       (y last : ℕ) {w' : List ℕ} {d : Machine} → y ≡ x_at w c.row → n < 4294967296 →
       walk_in w v (λ _. true) f (suc v.objects) n 0 ≡ ok last → w' ≡ put_word w (v.base + y * 4) n → d ≡ stepped c (c.row + 1) →
-      Does w c w' (Turn.On d) (open_here w c)
+      Does w c w' (Ok (Some d)) (open_here w c)
   unfolding statement_number
   open-does y last ey ln e p q =
       does-on (p ∙ rw (ev, ey, en)) q (frame-words O.ready (x_at w c.row) (fits O.ready).x (cell_value w k))
@@ -265,7 +270,7 @@ module _ {w : List ℕ} {c : Machine} {f k : ℕ} (O : Opening w c f k) (v : Vie
       (omega (arith, ln, en)) (λ z. omega (arith, z, O.at_open)) here (walk-as w c v f _ n _ ev O.field en e))
 
   pub open-walk-stops :
-      (s : Fault) → walk_in w v (λ _. true) f (suc v.objects) n 0 ≡ no (stop_of s) → Does w c w (Turn.Stopped s) (open_here w c)
+      (s : Fault) → walk_in w v (λ _. true) f (suc v.objects) n 0 ≡ no (stop_of s) → Does w c w (Err s) (open_here w c)
   open-walk-stops s e =
       does-stop s
       (λ m R. Steps.open-walk-stop R (x_at w c.row) (y_at w c.row) (member_at w c.row) k s (fits O.ready).y here (walk-as w c v f _ n _ ev O.field en e))
@@ -281,7 +286,7 @@ module _ {w : List ℕ} {c : Machine} (ready : CanStep w c) (k : AtKind w c Shut
 
   pub shut-stops :
       (v : View) (x f : ℕ) (s : Fault) → v ≡ view_of c → x ≡ x_at w c.row → f ≡ member_at w c.row → spot w v 1 x f ≡ no (stop_of s) →
-      Does w c w (Turn.Stopped s) (shut_here w c)
+      Does w c w (Err s) (shut_here w c)
   shut-stops v x f s ev ex ef e =
       does-stop s (λ m R. Steps.shut-stop R _ _ shut-fits.0 shut-fits.1 s (rw (← ev, ← ex, ← ef) e))
 
@@ -298,7 +303,7 @@ module _ {w : List ℕ} {c : Machine} {f k : ℕ} (O : Shutting w c f k) where
     shut-walked last e = record { shutting = at-member; last = last; walked = walk-as w c v f _ n _ ev O.field en e }
 
     pub shut-walk-stops :
-        (s : Fault) → walk_in w v (λ _. true) f (suc v.objects) n 0 ≡ no (stop_of s) → Does w c w (Turn.Stopped s) (shut_here w c)
+        (s : Fault) → walk_in w v (λ _. true) f (suc v.objects) n 0 ≡ no (stop_of s) → Does w c w (Err s) (shut_here w c)
     shut-walk-stops s e =
         let l = shut-fits O.ready O.at_shut in
         does-stop s (λ m R. Steps.shut-walk-stop R _ _ l.0 l.1 k at-member.cell s (walk-as w c v f _ n _ ev O.field en e))
@@ -307,7 +312,7 @@ module _ {w : List ℕ} {c : Machine} {k : ℕ} (O : Walked w c k) where
   shut_at : (x_at w c.row < frame_variables) × (member_at w c.row < most_names)
   shut_at = shut-fits O.shutting.ready O.shutting.at_shut
 
-  pub shut-does : {d : Machine} → 2 ≤ halves_at w c.holder k → d ≡ stepped c (c.row + 1) → Does w c w (Turn.On d) (shut_here w c)
+  pub shut-does : {d : Machine} → 2 ≤ halves_at w c.holder k → d ≡ stepped c (c.row + 1) → Does w c w (Ok (Some d)) (shut_here w c)
   unfolding statement_number
   shut-does l q =
       does-on refl q (same_refl w)
@@ -315,7 +320,7 @@ module _ {w : List ℕ} {c : Machine} {k : ℕ} (O : Walked w c k) where
       Steps.shut-done R _ _ shut_at.0 shut_at.1 k O.shutting.cell O.last O.walked
       (λ z. omega (arith, z, O.shutting.at_shut)) l)
 
-  pub shut-lacks : halves_at w c.holder k < 2 → Does w c w (Turn.Stopped Fault.Permission) (shut_here w c)
+  pub shut-lacks : halves_at w c.holder k < 2 → Does w c w (Err Fault.Permission) (shut_here w c)
   shut-lacks l =
       does-stop Fault.Permission
       (λ m R. Steps.shut-half-stop R _ _ shut_at.0 shut_at.1 k O.shutting.cell O.last O.walked l)

@@ -19,7 +19,7 @@ use Rattle.tables.specs.Layout.{frame_variables}
 use Rattle.tables.specs.Decode.{byte_at, all_rows, row_count, kind_at, target_at, formula_at, atom_count, left_at, right_at, rel_of, atom_place}
 use Rattle.tables.specs.Tables.{RowFits, HasTarget}
 use Rattle.run_heap.specs.declared.Fault.{Fault}
-use Rattle.run_steps.specs.declared.Turn.{Turn}
+use Rattle.std.specs.Prelude.{Some, Ok, Err}
 use Rattle.run_heap.specs.Views.{frame_at, variable_at, halves_of, view_of, read_in, stop_of, ObjectFits, Readable}
 use Rattle.run_footprint.specs.Footprints.{right_test, test_in, take_in}
 use Rattle.run_steps.specs.States.{FrameIs, Represents, Follows, at_row, stepped, NotEnd, AtKind, Chooses, Jumps, if_on, loop_on, jump_here}
@@ -144,18 +144,18 @@ module _ {w : List ℕ} {c : Machine} {m : Config} (R : Represents w c m) where
 
   -- ANSWERS
   pub follow-stop :
-      (f : Fault) (t : Try Stop Config) → t ≡ no (stop_of f) → Follows w c (Turn.Stopped f) m (took t)
+      (f : Fault) (t : Try Stop Config) → t ≡ no (stop_of f) → Follows w c (Err f) m (took t)
   unfolding took
   follow-stop f t e = (rw e, R)
 
   pub follow-stop-in :
-      (f : Fault) (t : Try Stop Config) {w' : List ℕ} → t ≡ no (stop_of f) → Represents w' c m → Follows w' c (Turn.Stopped f) m (took t)
+      (f : Fault) (t : Try Stop Config) {w' : List ℕ} → t ≡ no (stop_of f) → Represents w' c m → Follows w' c (Err f) m (took t)
   unfolding took
   follow-stop-in f t e I = (rw e, I)
 
   pub follow-on :
       (d : Machine) (t : Try Stop Config) (n : Config) {w' : List ℕ} → t ≡ ok n → d.steps ≡ c.steps + 1 → Represents w' d n →
-      Follows w' c (Turn.On d) m (took t)
+      Follows w' c (Ok (Some d)) m (took t)
   unfolding took
   follow-on d t n e s I = record { next = n; is_next = rw e; represents = I; counted = s }
 
@@ -165,13 +165,13 @@ module _ {w : List ℕ} {c : Machine} {m : Config} (R : Represents w c m) where
 
   pub assert-stop :
       (φ : Formula ℕ) (f : Fault) → FormulaOk φ → take_in w (view_of c) φ [] ≡ no (stop_of f) →
-      Follows w c (Turn.Stopped f) m (took (assert_step φ m))
+      Follows w c (Err f) m (took (assert_step φ m))
   unfolding assert_step ◌>>=◌
   assert-stop φ f l e = follow-stop f _ (rw (no-footprint sees φ (stop_of f) l e))
 
   pub assert-on :
       (φ : Formula ℕ) (ss : List ℕ) → FormulaOk φ → NotEnd w c → take_in w (view_of c) φ [] ≡ ok ss →
-      Follows w c (Turn.On (stepped c (c.row + 1))) m (took (assert_step φ m))
+      Follows w c (Ok (Some (stepped c (c.row + 1)))) m (took (assert_step φ m))
   unfolding assert_step ◌>>=◌
   assert-on φ ss l n e =
       let (A, a, M) = ok-footprint sees φ ss l e in
@@ -180,21 +180,21 @@ module _ {w : List ℕ} {c : Machine} {m : Config} (R : Represents w c m) where
   -- BRANCHES AND LOOPS
   goes_to :
       (i : ℕ) → HasTarget (kind_at w c.row) → i ≡ target_at w c.row →
-      Follows w c (Turn.On (stepped c (target_at w c.row))) m (on (with_frame m (jump i m.frame)))
+      Follows w c (Ok (Some (stepped c (target_at w c.row)))) m (on (with_frame m (jump i m.frame)))
   goes_to i t e = record { next = with_frame m (jump i m.frame); is_next = refl; represents = moved (target_at w c.row) i (row_fits.follows.target t) e; counted = refl }
 
-  else-on : AtKind w c Else → Follows w c (Turn.On (stepped c (target_at w c.row))) m (on (else_step (all_rows w) m))
+  else-on : AtKind w c Else → Follows w c (Ok (Some (stepped c (target_at w c.row)))) m (on (else_step (all_rows w) m))
   unfolding else_step statement_number
   else-on k = goes_to _ (inr (inl k)) (ap (closing (all_rows w)) R.frame.row_is ∙ sym (row_fits.follows.to_join k))
 
-  again-on : AtKind w c Again → Follows w c (Turn.On (stepped c (target_at w c.row))) m (on (again_step (all_rows w) m))
+  again-on : AtKind w c Again → Follows w c (Ok (Some (stepped c (target_at w c.row)))) m (on (again_step (all_rows w) m))
   unfolding again_step statement_number
   again-on k = goes_to _ (inr (inr (inr k))) (ap (loop_of (all_rows w)) R.frame.row_is ∙ sym (row_fits.follows.to_loop k))
 
-  pub jump-on : Jumps w c → Follows w c (Turn.On (stepped c (target_at w c.row))) m (jump_here w c m)
+  pub jump-on : Jumps w c → Follows w c (Ok (Some (stepped c (target_at w c.row)))) m (jump_here w c m)
   unfolding statement_number
-  jump-on (inl k) = subst (λ n. Follows w c (Turn.On (stepped c (target_at w c.row))) m (on (cond (eqb n (statement_number Else)) (else_step (all_rows w) m) (again_step (all_rows w) m)))) (sym k) (else-on k)
-  jump-on (inr k) = subst (λ n. Follows w c (Turn.On (stepped c (target_at w c.row))) m (on (cond (eqb n (statement_number Else)) (else_step (all_rows w) m) (again_step (all_rows w) m)))) (sym k) (again-on k)
+  jump-on (inl k) = subst (λ n. Follows w c (Ok (Some (stepped c (target_at w c.row)))) m (on (cond (eqb n (statement_number Else)) (else_step (all_rows w) m) (again_step (all_rows w) m)))) (sym k) (else-on k)
+  jump-on (inr k) = subst (λ n. Follows w c (Ok (Some (stepped c (target_at w c.row)))) m (on (cond (eqb n (statement_number Else)) (else_step (all_rows w) m) (again_step (all_rows w) m)))) (sym k) (again-on k)
 
   -- where the condition fails
   other_row : Chooses w c → (target_at w c.row < row_count w) × (target_at w c.row ≡ suc (closing (all_rows w) c.row))
@@ -227,17 +227,17 @@ module _ {w : List ℕ} {c : Machine} {m : Config} (R : Represents w c m) where
 
     pub if-stop :
         (f : Fault) → test_in w (view_of c) a ≡ no (stop_of f) →
-        Follows w c (Turn.Stopped f) m (if_on w a m)
+        Follows w c (Err f) m (if_on w a m)
     unfolding ◌>>=◌
     if-stop f e = follow-stop f _ (if-is ∙ rw e)
 
     pub if-true :
-        Chooses w c → test_in w (view_of c) a ≡ ok true → Follows w c (Turn.On (stepped c (c.row + 1))) m (if_on w a m)
+        Chooses w c → test_in w (view_of c) a ≡ ok true → Follows w c (Ok (Some (stepped c (c.row + 1)))) m (if_on w a m)
     unfolding ◌>>=◌
     if-true k e = follow-on _ _ _ (if-is ∙ rw e) refl (moved (c.row + 1) _ (next_fits (not_end k)) next-is)
 
     pub if-false :
-        Chooses w c → test_in w (view_of c) a ≡ ok false → Follows w c (Turn.On (stepped c (target_at w c.row))) m (if_on w a m)
+        Chooses w c → test_in w (view_of c) a ≡ ok false → Follows w c (Ok (Some (stepped c (target_at w c.row)))) m (if_on w a m)
     unfolding ◌>>=◌
     if-false k e =
         let (l, t) = other_row k in
@@ -246,7 +246,7 @@ module _ {w : List ℕ} {c : Machine} {m : Config} (R : Represents w c m) where
 
   -- the invariant of a loop, and then its condition
   pub loop-stop :
-      (a : ℕ) (f : Fault) → take_in w (view_of c) (formula_at w c.row) [] ≡ no (stop_of f) → Follows w c (Turn.Stopped f) m (loop_on w a c m)
+      (a : ℕ) (f : Fault) → take_in w (view_of c) (formula_at w c.row) [] ≡ no (stop_of f) → Follows w c (Err f) m (loop_on w a c m)
   unfolding loop_step ◌>>=◌
   loop-stop a f e = follow-stop f _ (rw (no-footprint sees _ (stop_of f) row-formula-ok e))
 

@@ -20,7 +20,7 @@ use Rattle.tables.specs.Tables.{SideFits}
 use Rattle.tables.specs.Stores.{SameTables, put_word}
 use Rattle.tables.proofs.Decoding.{tables-same, rows-count-same, kind-same}
 use Rattle.run_heap.specs.declared.Fault.{Fault}
-use Rattle.run_steps.specs.declared.Turn.{Turn}
+use Rattle.std.specs.Prelude.{Some, Ok, Err}
 use Rattle.run_heap.specs.Views.{frame_at, variable_at, cell_value, halves_at, halves_of, spot, read_in, view_of, stop_of}
 use Rattle.run_heap.specs.Chains.{walk_in}
 use Rattle.run_footprint.specs.Footprints.{spread, take_in, marked}
@@ -63,7 +63,7 @@ module _ {w : List ℕ} {c : Machine} {m : Config} (R : Represents w c m) where
 
   bound-on :
       (x : ℕ) (t : Try Stop ℕ) (v : ℕ) → x < frame_variables → v < 4294967296 → NotEnd w c → t ≡ ok v →
-      Follows (put_word w (frame_at (c.frames - 1) + x * 4) v) c (Turn.On (stepped c (c.row + 1))) m (bound x t)
+      Follows (put_word w (frame_at (c.frames - 1) + x * 4) v) c (Ok (Some (stepped c (c.row + 1)))) m (bound x t)
   unfolding ◌>>=◌ with_frame advance bind
   bound-on x u v lx lv n r =
       let w' : List ℕ = put_word w (frame_at (length m.callers) + x * 4) v in
@@ -74,7 +74,7 @@ module _ {w : List ℕ} {c : Machine} {m : Config} (R : Represents w c m) where
       (follow-on R _ _ _ (rw r) refl
       (moved_on (put-variable R x v lx lv) (λ z. n (sym (kind-kept w' t) ∙ z))))
 
-  bound-stop : (x : ℕ) (t : Try Stop ℕ) (f : Fault) → t ≡ no (stop_of f) → Follows w c (Turn.Stopped f) m (bound x t)
+  bound-stop : (x : ℕ) (t : Try Stop ℕ) (f : Fault) → t ≡ no (stop_of f) → Follows w c (Err f) m (bound x t)
   unfolding ◌>>=◌
   bound-stop x t f r = follow-stop R f _ (rw r)
 
@@ -82,13 +82,13 @@ module _ {w : List ℕ} {c : Machine} {m : Config} (R : Represents w c m) where
   pub assign-on :
       (x : ℕ) (e : Expr ℕ) (v : ℕ) → x < frame_variables → v < 4294967296 → SideFits e → NotEnd w c →
       read_in w (view_of c) e ≡ ok v →
-      Follows (put_word w (frame_at (c.frames - 1) + x * 4) v) c (Turn.On (stepped c (c.row + 1))) m (took (assign_step x e m))
+      Follows (put_word w (frame_at (c.frames - 1) + x * 4) v) c (Ok (Some (stepped c (c.row + 1)))) m (took (assign_step x e m))
   unfolding assign_step
   assign-on x e v lx lv ok-e n r = bound-on x _ v lx lv n (value_is (sees R) e ok-e ∙ r)
 
   pub assign-stop :
       (x : ℕ) (e : Expr ℕ) (f : Fault) → SideFits e → read_in w (view_of c) e ≡ no (stop_of f) →
-      Follows w c (Turn.Stopped f) m (took (assign_step x e m))
+      Follows w c (Err f) m (took (assign_step x e m))
   unfolding assign_step
   assign-stop x e f ok-e r = bound-stop x _ f (value_is (sees R) e ok-e ∙ r)
 
@@ -105,13 +105,13 @@ module _ {w : List ℕ} {c : Machine} {m : Config} (R : Represents w c m) where
     pub compute-on :
         (v : ℕ) → x < frame_variables → v < 4294967296 → NotEnd w c →
         computed o (variable_at w (view_of c).base y) (variable_at w (view_of c).base z) ≡ ok v →
-        Follows (put_word w (frame_at (c.frames - 1) + x * 4) v) c (Turn.On (stepped c (c.row + 1))) m (took (compute_step o x y z m))
+        Follows (put_word w (frame_at (c.frames - 1) + x * 4) v) c (Ok (Some (stepped c (c.row + 1)))) m (took (compute_step o x y z m))
     unfolding compute_step
     compute-on v lx lv n r = bound-on x _ v lx lv n (computed-is ∙ r)
 
     pub compute-stop :
         computed o (variable_at w (view_of c).base y) (variable_at w (view_of c).base z) ≡ no overflow →
-        Follows w c (Turn.Stopped Fault.Overflow) m (took (compute_step o x y z m))
+        Follows w c (Err Fault.Overflow) m (took (compute_step o x y z m))
     unfolding compute_step stop_of
     compute-stop r = bound-stop x _ Fault.Overflow (computed-is ∙ r)
 
@@ -119,48 +119,48 @@ module _ {w : List ℕ} {c : Machine} {m : Config} (R : Represents w c m) where
   pub open-on :
       (y x f k last : ℕ) → y < frame_variables → x < frame_variables → cell_value w k < 4294967296 → NotEnd w c →
       spot w (view_of c) 2 x f ≡ ok k → walk_in w (view_of c) (λ _. true) f (suc c.objects) (cell_value w k) 0 ≡ ok last →
-      Follows (put_word w (frame_at (c.frames - 1) + y * 4) (cell_value w k)) c (Turn.On (stepped c (c.row + 1))) m (took (open_step y x f m))
+      Follows (put_word w (frame_at (c.frames - 1) + y * 4) (cell_value w k)) c (Ok (Some (stepped c (c.row + 1)))) m (took (open_step y x f m))
   unfolding ◌>>=◌
   open-on y x f k last ly lx lv n e q =
-      subst (λ t. Follows (put_word w (frame_at (c.frames - 1) + y * 4) (cell_value w k)) c (Turn.On (stepped c (c.row + 1))) m (took t))
+      subst (λ t. Follows (put_word w (frame_at (c.frames - 1) + y * 4) (cell_value w k)) c (Ok (Some (stepped c (c.row + 1)))) m (took t))
       (sym (open_done m (sees R) x f lx y k last e q)) (bound-on y (ok (cell_value w k)) (cell_value w k) ly lv n refl)
 
   pub open-stop :
       (y x f : ℕ) (s : Fault) → x < frame_variables → spot w (view_of c) 2 x f ≡ no (stop_of s) →
-      Follows w c (Turn.Stopped s) m (took (open_step y x f m))
+      Follows w c (Err s) m (took (open_step y x f m))
   open-stop y x f s lx e = follow-stop R s _ (open_no m (sees R) x f lx y (stop_of s) e)
 
   pub open-walk-stop :
       (y x f k : ℕ) (s : Fault) → x < frame_variables → spot w (view_of c) 2 x f ≡ ok k →
       walk_in w (view_of c) (λ _. true) f (suc c.objects) (cell_value w k) 0 ≡ no (stop_of s) →
-      Follows w c (Turn.Stopped s) m (took (open_step y x f m))
+      Follows w c (Err s) m (took (open_step y x f m))
   open-walk-stop y x f k s lx e q = follow-stop R s _ (open-walk m (sees R) x f lx y k (stop_of s) e q)
 
   -- `shut`
   module _ (x f : ℕ) (lx : x < frame_variables) (lf : f < most_names) where
-    pub shut-stop : (s : Fault) → spot w (view_of c) 1 x f ≡ no (stop_of s) → Follows w c (Turn.Stopped s) m (took (shut_step x f m))
+    pub shut-stop : (s : Fault) → spot w (view_of c) 1 x f ≡ no (stop_of s) → Follows w c (Err s) m (took (shut_step x f m))
     shut-stop s e = follow-stop R s _ (shut-no m (sees R) x f lx lf (stop_of s) e)
 
     module _ (k : ℕ) (e : spot w (view_of c) 1 x f ≡ ok k) where
       pub shut-walk-stop :
           (s : Fault) → walk_in w (view_of c) (λ _. true) f (suc c.objects) (cell_value w k) 0 ≡ no (stop_of s) →
-          Follows w c (Turn.Stopped s) m (took (shut_step x f m))
+          Follows w c (Err s) m (took (shut_step x f m))
       shut-walk-stop s q = follow-stop R s _ (shut-walk m (sees R) x f lx lf k (stop_of s) e q)
 
       module _ (last : ℕ) (q : walk_in w (view_of c) (λ _. true) f (suc c.objects) (cell_value w k) 0 ≡ ok last) where
-        pub shut-half-stop : halves_at w c.holder k < 2 → Follows w c (Turn.Stopped Fault.Permission) m (took (shut_step x f m))
+        pub shut-half-stop : halves_at w c.holder k < 2 → Follows w c (Err Fault.Permission) m (took (shut_step x f m))
         unfolding stop_of
         shut-half-stop l = follow-stop R Fault.Permission _ (shut-half m (sees R) x f lx lf k last e q l)
 
         pub shut-done :
-            NotEnd w c → 2 ≤ halves_at w c.holder k → Follows w c (Turn.On (stepped c (c.row + 1))) m (took (shut_step x f m))
+            NotEnd w c → 2 ≤ halves_at w c.holder k → Follows w c (Ok (Some (stepped c (c.row + 1)))) m (took (shut_step x f m))
         shut-done n l = follow-on R _ _ _ (shut-on m (sees R) x f lx lf k last e q l) refl (moved_on R n)
 
   -- `set`
   pub set_on :
       (x f y k v : ℕ) → x < frame_variables → y < frame_variables → v < 4294967296 → NotEnd w c →
       v ≡ variable_at w (frame_at (c.frames - 1)) y → spot w (view_of c) 2 x f ≡ ok k → k < heap_fields →
-      Follows (put_word w (values_at + k * 4) v) c (Turn.On (stepped c (c.row + 1))) m (took (set_step x f y m))
+      Follows (put_word w (values_at + k * 4) v) c (Ok (Some (stepped c (c.row + 1)))) m (took (set_step x f y m))
   unfolding set_step stored ◌>>=◌ with_frame advance
   set_on x f y k v lx ly lv n ev e kl =
       let w' : List ℕ = put_word w (values_at + k * 4) v in
@@ -172,7 +172,7 @@ module _ {w : List ℕ} {c : Machine} {m : Config} (R : Represents w c m) where
 
   pub set-stop :
       (x f y : ℕ) (s : Fault) → x < frame_variables → spot w (view_of c) 2 x f ≡ no (stop_of s) →
-      Follows w c (Turn.Stopped s) m (took (set_step x f y m))
+      Follows w c (Err s) m (took (set_step x f y m))
   unfolding set_step ◌>>=◌
   set-stop x f y s lx e = follow-stop R s _ (rw (locate-no (sees R) 2 x f (stop_of s) (omega arith) lx e))
 
@@ -216,7 +216,7 @@ module _ {w : List ℕ} {c : Machine} {m : Config} (R : Represents w c m) where
 
   pub release-on :
       (φ : Formula ℕ) (ss : List ℕ) → FormulaOk φ → NotEnd w c → take_in w (view_of c) φ [] ≡ ok ss →
-      Follows (marked w (spread w c.objects ss) c.holder 0) c (Turn.On (stepped c (c.row + 1))) m (took (release_step φ m))
+      Follows (marked w (spread w c.objects ss) c.holder 0) c (Ok (Some (stepped c (c.row + 1)))) m (took (release_step φ m))
   unfolding release_step ◌>>=◌ with_frame advance holding
   release-on φ ss l n e =
       let rs : List ℕ = spread w c.objects ss in
@@ -227,6 +227,6 @@ module _ {w : List ℕ} {c : Machine} {m : Config} (R : Represents w c m) where
 
   pub release-stop :
       (φ : Formula ℕ) (f : Fault) → FormulaOk φ → take_in w (view_of c) φ [] ≡ no (stop_of f) →
-      Follows w c (Turn.Stopped f) m (took (release_step φ m))
+      Follows w c (Err f) m (took (release_step φ m))
   unfolding release_step ◌>>=◌
   release-stop φ f l e = follow-stop R f _ (rw (no-footprint (sees R) φ (stop_of f) l e))

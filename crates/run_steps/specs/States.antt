@@ -1,5 +1,5 @@
 -- Which state of the definitions the stores and the counters stand for, and what a step of the code does.
-use Rattle.std.specs.Prelude.{◌≡◌, true, cond, List, [], ◌∷◌, ◌⊎◌, ℕ, suc, ◌+◌, ◌-◌, ◌*◌, ◌≤◌, ◌<◌, T, eqb, length}
+use Rattle.std.specs.Prelude.{◌≡◌, true, cond, List, [], ◌∷◌, ◌⊎◌, ℕ, suc, ◌+◌, ◌-◌, ◌*◌, ◌≤◌, ◌<◌, T, eqb, length, Option, Some, None, Result, Ok, Err}
 use Rattle.std.proofs.Math.Option.{some}
 use Rattle.rules.specs.Limits.{heap_objects, heap_fields, most_frames}
 use Rattle.rules.specs.Base.{ok, any}
@@ -11,7 +11,7 @@ use Rattle.tables.specs.Layout.{frame_variables}
 use Rattle.tables.specs.Decode.{row_count, operation_of, kind_at, x_at, y_at, z_at, member_at, first_atom_at, formula_at, atom_place, byte_at, rel_of, left_at, right_at, all_rows, method_count, ensures_at, field_count_at}
 use Rattle.tables.specs.Tables.{Tables}
 use Rattle.tables.specs.Stores.{SameTables}
-use Rattle.run_steps.specs.declared.Turn.{Turn}
+use Rattle.run_heap.specs.declared.Fault.{Fault}
 use Rattle.run_heap.specs.Views.{frame_at, variable_at, saved_holder, saved_row, method_of, cell_value, halves_at, class_in, first_in, cell_of, halves_of, spot, view_of, whole, ObjectFits, stop_of}
 use Rattle.run_heap.specs.Chains.{walk_in}
 
@@ -66,6 +66,10 @@ pub record Represents (w : List ℕ) (c : Machine) (m : Config) : Type 0 where
 
 -- STEPS
 
+-- what became of a step: on to the next, or none after main's `end`; or why it is not done
+abbrev pub Turn : Type 0
+Turn = Result (Option Machine) Fault
+
 -- the state m, in which the definition does s, is left as the code's answer says
 pub record Goes (w : List ℕ) (c d : Machine) (s : Step) : Type 0 where
   pub next : Config
@@ -74,9 +78,9 @@ pub record Goes (w : List ℕ) (c d : Machine) (s : Step) : Type 0 where
   pub counted : d.steps ≡ c.steps + 1
 
 abbrev pub Follows : List ℕ → Machine → Turn → Config → Step → Type 0
-Follows w c (Turn.On d) m s = Goes w c d s
-Follows w c (Turn.Stopped f) m s = (s ≡ stop (stop_of f)) × Represents w c m
-Follows w c Turn.Done m s = (s ≡ done) × Represents w c m
+Follows w c (Ok (Some d)) m s = Goes w c d s
+Follows w c (Err f) m s = (s ≡ stop (stop_of f)) × Represents w c m
+Follows w c (Ok None) m s = (s ≡ done) × Represents w c m
 
 -- a step by the code from w and c, which leaves w' and answers r, is the definition's in every state that w and c stand for
 pub record Does (w : List ℕ) (c : Machine) (w' : List ℕ) (r : Turn) (f : Config → Step) : Type 0 where

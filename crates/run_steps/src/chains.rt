@@ -4,7 +4,7 @@ ghost use Rattle.run_steps.specs.States.{CanStep, AtKind, Does, Opening, Shuttin
 
 use crate::{Turn, next};
 use rules::Machine;
-use run_heap::{Fault, Read, Spot, Stores};
+use run_heap::{Fault, Stores};
 
 // Where the location of `x.f`, the cell k, is held whole: the walk goes on from its value, which y gets.
 fn open_on(work: &mut [u8], c: Machine, f: usize, k: usize) -> Turn
@@ -15,14 +15,10 @@ fn open_on(work: &mut [u8], c: Machine, f: usize, k: usize) -> Turn
     let v = run_heap::view_of(c);
     let b = v.base;
     let n = run_heap::cell_value(work, k);
-    match run_heap::walk(work, v, f, n) {
-        Read::Got(_) => {
-            let y = tables::x_at(work, row);
-            tables::put_word(work, b + y * Stores::WORD_BYTES, n);
-            Turn::On(next(c, c.row + 1))
-        }
-        Read::Lacking(s) => Turn::Stopped(s),
-    }
+    run_heap::walk(work, v, f, n)?;
+    let y = tables::x_at(work, row);
+    tables::put_word(work, b + y * Stores::WORD_BYTES, n);
+    Ok(Some(next(c, c.row + 1)))
 }
 
 // `open y x f`: "takes x ≠ null and `chain x f`; y becomes `x.f`"; "x null is 25".
@@ -34,10 +30,8 @@ pub fn open_step(work: &mut [u8], c: Machine) -> Turn
     let v = run_heap::view_of(c);
     let x = tables::y_at(work, row);
     let f = tables::member_at(work, row);
-    match run_heap::locate(work, v, Stores::WHOLE, x, f) {
-        Spot::At(k) => open_on(work, c, f, k),
-        Spot::Lacking(s) => Turn::Stopped(s),
-    }
+    let k = run_heap::locate(work, v, Stores::WHOLE, x, f)?;
+    open_on(work, c, f, k)
 }
 
 // Where the chain of the value of `x.f`, the cell k, is held: then all of the cell. The chain does not pass it: from there it would come to its own
@@ -47,9 +41,9 @@ fn shut_whole(work: &[u8], c: Machine, k: usize) -> Turn
     ensures { Does work.now c work.now result (shut_here work.now c) }
 {
     if run_heap::halves_held(work, c.holder, k) < Stores::WHOLE {
-        return Turn::Stopped(Fault::Permission);
+        return Err(Fault::Permission);
     }
-    Turn::On(next(c, c.row + 1))
+    Ok(Some(next(c, c.row + 1)))
 }
 
 // Where half of the location of `x.f`, the cell k, is held: the chain from its value.
@@ -58,10 +52,8 @@ fn shut_on(work: &[u8], c: Machine, f: usize, k: usize) -> Turn
     ensures { Does work.now c work.now result (shut_here work.now c) }
 {
     let v = run_heap::view_of(c);
-    match run_heap::walk(work, v, f, run_heap::cell_value(work, k)) {
-        Read::Got(_) => shut_whole(work, c, k),
-        Read::Lacking(s) => Turn::Stopped(s),
-    }
+    run_heap::walk(work, v, f, run_heap::cell_value(work, k))?;
+    shut_whole(work, c, k)
 }
 
 // `shut x f`: "takes a chain of the value of `x.f` .. then the whole permission to `x.f`".
@@ -73,8 +65,6 @@ pub fn shut_step(work: &[u8], c: Machine) -> Turn
     let v = run_heap::view_of(c);
     let x = tables::x_at(work, row);
     let f = tables::member_at(work, row);
-    match run_heap::locate(work, v, Stores::HALF, x, f) {
-        Spot::At(k) => shut_on(work, c, f, k),
-        Spot::Lacking(s) => Turn::Stopped(s),
-    }
+    let k = run_heap::locate(work, v, Stores::HALF, x, f)?;
+    shut_on(work, c, f, k)
 }

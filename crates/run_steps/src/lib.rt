@@ -1,7 +1,8 @@
-// Which state the stores stand for; the steps that stay in their frame. `open` and `shut` are in `chains`.
+// Which state the stores stand for; the steps that stay in their frame. `open` and `shut` are in `chains`, how a run ends in `ends`.
 #![tactic(auto)]
 
 mod chains;
+mod ends;
 
 ghost use Rattle.std.specs.Prelude.{◌≡◌, [], ◌+◌, ◌*◌, ◌<◌, T, length};
 ghost use Rattle.rules.specs.Grammar.{Set, Let, If, Loop, is_computing};
@@ -11,22 +12,17 @@ ghost use Rattle.run_heap.specs.Views.{view_of};
 ghost use Rattle.run_footprint.specs.Footprints.{take_in, footprint_shares, TookUpTo};
 
 pub use chains::{open_step, shut_step};
+pub use ends::{Ending, Ran, ended};
 use rules::Machine;
-use run_footprint::{Shares, Took, Truth};
-use run_heap::{Fault, Read, Spot, Stores};
-use run_numbers::Computed;
+use run_footprint::Shares;
+use run_heap::{Fault, Stores};
 use tables::Layout;
 
 // The number of no frame: what is released goes to it.
 const NOBODY: u32 = 0;
 
-// What became of a step: on to the next, not done, or main's `end` done.
-#[derive(Clone, Copy)]
-pub enum Turn {
-    On(Machine),
-    Stopped(Fault),
-    Done,
-}
+// What became of a step: on to the next, or none after main's `end`; or why it is not done.
+pub type Turn = Result<Option<Machine>, Fault>;
 
 // One step more, on to a row.
 fn next(c: Machine, row: u32) -> Machine
@@ -45,7 +41,7 @@ fn next(c: Machine, row: u32) -> Machine
 }
 
 // What the formula of the row takes.
-fn row_footprint(work: &[u8], c: Machine, shares: &mut Shares) -> Took
+fn row_footprint(work: &[u8], c: Machine, shares: &mut Shares) -> Result<usize, Fault>
     requires { CanStep work.now c × (length shares.old ≡ footprint_shares) }
     ensures { TookUpTo result shares.new footprint_shares (take_in work.now (view_of c) (formula_at work.now c.row) []) }
 {
@@ -62,10 +58,8 @@ pub fn assert_step(work: &[u8], c: Machine) -> Turn
     ensures { Does work.now c work.now result (assert_here work.now c) }
 {
     let mut shares = [0usize; run_footprint::SHARES];
-    match row_footprint(work, c, &mut shares) {
-        Took::Shares(_) => Turn::On(next(c, c.row + 1)),
-        Took::Lacking(s) => Turn::Stopped(s),
-    }
+    row_footprint(work, c, &mut shares)?;
+    Ok(Some(next(c, c.row + 1)))
 }
 
 // `release`.
@@ -74,13 +68,9 @@ pub fn release_step(work: &mut [u8], c: Machine) -> Turn
     ensures { Does work.old c work.new result (release_here work.old c) }
 {
     let mut shares = [0usize; run_footprint::SHARES];
-    match row_footprint(work, c, &mut shares) {
-        Took::Shares(n) => {
-            run_footprint::mark(work, run_heap::view_of(c), &shares, n, NOBODY);
-            Turn::On(next(c, c.row + 1))
-        }
-        Took::Lacking(s) => Turn::Stopped(s),
-    }
+    let n = row_footprint(work, c, &mut shares)?;
+    run_footprint::mark(work, run_heap::view_of(c), &shares, n, NOBODY);
+    Ok(Some(next(c, c.row + 1)))
 }
 
 // On to the next row where the condition, the atom a, holds, and else to the row's target.
@@ -89,11 +79,11 @@ fn choose(work: &[u8], c: Machine, a: usize) -> Turn
     ensures { Does work.now c work.now result (if_on work.now a) }
 {
     let row = c.row as usize;
-    match run_footprint::condition(work, run_heap::view_of(c), a) {
-        Truth::Holds => Turn::On(next(c, c.row + 1)),
-        Truth::Fails => Turn::On(next(c, tables::target_at(work, row) as u32)),
-        Truth::Lacking(s) => Turn::Stopped(s),
+    let holds = run_footprint::condition(work, run_heap::view_of(c), a)?;
+    if holds {
+        return Ok(Some(next(c, c.row + 1)));
     }
+    Ok(Some(next(c, tables::target_at(work, row) as u32)))
 }
 
 // `if`: "a false `if` goes to the line after its `else`".
@@ -112,10 +102,8 @@ pub fn loop_step(work: &[u8], c: Machine) -> Turn
 {
     let row = c.row as usize;
     let mut shares = [0usize; run_footprint::SHARES];
-    match row_footprint(work, c, &mut shares) {
-        Took::Shares(_) => choose(work, c, tables::first_atom_at(work, row) - 1),
-        Took::Lacking(s) => Turn::Stopped(s),
-    }
+    row_footprint(work, c, &mut shares)?;
+    choose(work, c, tables::first_atom_at(work, row) - 1)
 }
 
 // `else`, "on to its `join`", and `again`, "a step back to" its `loop`.
@@ -124,7 +112,7 @@ pub fn jump_step(work: &[u8], c: Machine) -> Turn
     ensures { Does work.now c work.now result (jump_here work.now c) }
 {
     let row = c.row as usize;
-    Turn::On(next(c, tables::target_at(work, row) as u32))
+    Ok(Some(next(c, tables::target_at(work, row) as u32)))
 }
 
 // `let`.
@@ -136,14 +124,10 @@ pub fn let_step(work: &mut [u8], c: Machine) -> Turn
     let v = run_heap::view_of(c);
     let b = v.base;
     let a = tables::first_atom_at(work, row);
-    match run_heap::right(work, v, a) {
-        Read::Got(n) => {
-            let x = tables::x_at(work, row);
-            tables::put_word(work, b + x * Stores::WORD_BYTES, n);
-            Turn::On(next(c, c.row + 1))
-        }
-        Read::Lacking(s) => Turn::Stopped(s),
-    }
+    let n = run_heap::right(work, v, a)?;
+    let x = tables::x_at(work, row);
+    tables::put_word(work, b + x * Stores::WORD_BYTES, n);
+    Ok(Some(next(c, c.row + 1)))
 }
 
 // `add` and `sub`.
@@ -156,14 +140,10 @@ pub fn compute_step(work: &mut [u8], c: Machine) -> Turn
     let b = v.base;
     let y = run_heap::variable(work, b, tables::y_at(work, row));
     let z = run_heap::variable(work, b, tables::z_at(work, row));
-    match run_numbers::compute(tables::kind_at(work, row), y, z) {
-        Computed::Value(n) => {
-            let x = tables::x_at(work, row);
-            tables::put_word(work, b + x * Stores::WORD_BYTES, n);
-            Turn::On(next(c, c.row + 1))
-        }
-        Computed::Overflow => Turn::Stopped(Fault::Overflow),
-    }
+    let n = run_numbers::compute(tables::kind_at(work, row), y, z).ok_or(Fault::Overflow)?;
+    let x = tables::x_at(work, row);
+    tables::put_word(work, b + x * Stores::WORD_BYTES, n);
+    Ok(Some(next(c, c.row + 1)))
 }
 
 // `set`: "first tests `acc x f`"; W8: "Reading needs one half, `set` both."
@@ -176,13 +156,9 @@ pub fn set_step(work: &mut [u8], c: Machine) -> Turn
     let b = v.base;
     let x = tables::x_at(work, row);
     let f = tables::member_at(work, row);
-    match run_heap::locate(work, v, Stores::WHOLE, x, f) {
-        Spot::At(k) => {
-            let y = tables::y_at(work, row);
-            let n = run_heap::variable(work, b, y);
-            tables::put_word(work, Layout::VALUES + k * Stores::WORD_BYTES, n);
-            Turn::On(next(c, c.row + 1))
-        }
-        Spot::Lacking(s) => Turn::Stopped(s),
-    }
+    let k = run_heap::locate(work, v, Stores::WHOLE, x, f)?;
+    let y = tables::y_at(work, row);
+    let n = run_heap::variable(work, b, y);
+    tables::put_word(work, Layout::VALUES + k * Stores::WORD_BYTES, n);
+    Ok(Some(next(c, c.row + 1)))
 }

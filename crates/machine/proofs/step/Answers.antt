@@ -4,63 +4,17 @@ use mathlib.Core.Logic.{inl, inr, ⊎_elim}
 use Rattle.run_steps.proofs.Doing.{fits}
 use Rattle.rules.specs.Grammar.{statement_number}
 use native.Mathlib.Omega.{arith}
-use borrow.Author.Rules.{rules}
 use Rattle.machine.proofs.step.Goals as goal
-
-pub set_step-requires : goal.set_step-requires
-unfolding statement_number
-set_step-requires c =
-    search rules
-
-pub let_step-requires : goal.let_step-requires
-unfolding statement_number
-let_step-requires c =
-    search rules
-
-pub new_step-requires : goal.new_step-requires
-unfolding statement_number
-new_step-requires c =
-    search rules
-
-pub call_step-requires : goal.call_step-requires
-unfolding statement_number
-call_step-requires c =
-    search rules
 
 pub assert_step-requires : goal.assert_step-requires
 unfolding statement_number
 assert_step-requires c =
     (c.requires.0, ⊎_elim (λ e z. omega (arith, e, z, c.kind_at.ensures)) (λ e z. omega (arith, e, z, c.kind_at.ensures)) c.in-13.is)
 
-pub release_step-requires : goal.release_step-requires
-unfolding statement_number
-release_step-requires c =
-    search rules
-
-pub if_step-requires : goal.if_step-requires
-unfolding statement_number
-if_step-requires c =
-    search rules
-
-pub loop_step-requires : goal.loop_step-requires
-unfolding statement_number
-loop_step-requires c =
-    search rules
-
 pub jump_step-requires : goal.jump_step-requires
 unfolding statement_number
 jump_step-requires c =
     (c.requires.0, ⊎_elim (λ e. inl (sym c.kind_at.ensures ∙ e)) (λ e. inr (sym c.kind_at.ensures ∙ e)) c.in-16.is)
-
-pub open_step-requires : goal.open_step-requires
-unfolding statement_number
-open_step-requires c =
-    search rules
-
-pub shut_step-requires : goal.shut_step-requires
-unfolding statement_number
-shut_step-requires c =
-    search rules
 
 pub compute_step-requires : goal.compute_step-requires
 compute_step-requires c =

@@ -2,6 +2,7 @@ use mathlib.Core.Path.{refl, sym, ◌∙◌}
 use mathlib.Core.Logic.{inl, inr}
 use Rattle.run_calls.proofs.Calling.{requires-atoms, requires-takes}
 use Rattle.run_footprint.proofs.Taking.{took-shares, took-lacking, count-shares}
+use Rattle.run_heap.proofs.Reading.{passed-on}
 use native.Mathlib.Omega.{arith}
 use Rattle.run_calls.proofs.admit.Goals as goal
 
@@ -11,7 +12,7 @@ footprint-requires c =
 
 pub enter-requires : goal.enter-requires
 enter-requires c =
-    let e = sym (requires-takes _ _ _ c.requires c.requires_first-first.ensures.0 c.requires_count-n.ensures.0) ∙ took-shares _ _ _ c.in-Shares.is c.footprint.ensures.took in
+    let e = sym (requires-takes _ _ _ c.requires c.requires_first-first.ensures.0 c.requires_count-n.ensures.0) ∙ took-shares _ _ _ c.in_ok-k.was c.footprint.ensures.took in
     record {
       view = refl;
       readable = c.requires.readable;
@@ -19,14 +20,14 @@ enter-requires c =
       more = c.requires.more;
       numbers = c.requires.numbers;
       size = c.footprint.ensures.size;
-      count = count-shares _ _ _ c.in-Shares.is c.footprint.ensures.count;
+      count = count-shares _ _ _ c.in_ok-k.was c.footprint.ensures.count;
       fit = c.requires.fit _ e;
     }
 
-pub returns-in-Shares : goal.returns-in-Shares
-returns-in-Shares c =
-    inl (_, sym (requires-takes _ _ _ c.requires c.requires_first-first.ensures.0 c.requires_count-n.ensures.0) ∙ took-shares _ _ _ c.in-Shares.is c.footprint.ensures.took, c.enter.ensures)
+pub returns : goal.returns
+returns c =
+    inl (_, sym (requires-takes _ _ _ c.requires c.requires_first-first.ensures.0 c.requires_count-n.ensures.0) ∙ took-shares _ _ _ c.in_ok-k.was c.footprint.ensures.took, c.enter.ensures)
 
-pub returns-in-Lacking : goal.returns-in-Lacking
-returns-in-Lacking c =
-    inr (_, sym (requires-takes _ _ _ c.requires c.requires_first-first.ensures.0 c.requires_count-n.ensures.0) ∙ took-lacking _ _ _ c.in-Lacking.is c.footprint.ensures.took, refl, refl)
+pub returns-in_err-k : goal.returns-in_err-k
+returns-in_err-k c =
+    inr (_, sym (requires-takes _ _ _ c.requires c.requires_first-first.ensures.0 c.requires_count-n.ensures.0) ∙ took-lacking _ _ _ c.in_err-k.was c.footprint.ensures.took, passed-on _ _ c.from_residual.ensures.1, refl)

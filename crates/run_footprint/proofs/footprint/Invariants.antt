@@ -7,7 +7,4 @@ use Prim.Native.Nat.{◌≤◌, ◌-◌, ◌+◌}
 use Rattle.run_footprint.proofs.footprint.Given as goal
 
 abbrev pub invariant-loop-i : goal.invariant-loop-i
-invariant-loop-i l = (l.count ≤ l.i) × (l.i ≤ l.n) × (length l.shares ≡ 8) × (take_in l.work l.v (atoms_from l.work (l.first + l.i) (l.n - l.i)) (take l.count l.shares) ≡ take_in l.work l.v (atoms_from l.work l.first l.n) []) × Sieve (take l.count l.shares) l.seen
-
-abbrev pub decreases-loop-i : goal.decreases-loop-i
-decreases-loop-i l = l.n - l.i
+invariant-loop-i l = (l.count ≤ l.i) × (length l.shares ≡ 8) × (take_in l.work l.v (atoms_from l.work (l.first + l.i) (l.n - l.i)) (take l.count l.shares) ≡ take_in l.work l.v (atoms_from l.work l.first l.n) []) × Sieve (take l.count l.shares) l.seen

@@ -10,42 +10,21 @@ use Rattle.run_footprint.proofs.mark.Goals as goal
 
 pub loop-i-init : goal.loop-i-init
 loop-i-init c =
-    (omega arith, only-refl _ _ _, refl)
-
-pub offset_bounds-shares-i : goal.offset_bounds-shares-i
-offset_bounds-shares-i c =
-    omega arith
-
-pub bounds-shares-i : goal.bounds-shares-i
-bounds-shares-i c =
-    omega arith
+    (only-refl _ _ _, refl)
 
 pub mark_one-requires : goal.mark_one-requires
 mark_one-requires c =
-    let g : length c.args.shares.now ≡ 8 = c.requires.0.1.1 in (readable-kept c.loop-i.invariant.1 c.requires.0.0, subst SharesFit (sym (spread-one-kept c.loop-i.invariant.1 c.requires.0.0 _)) (λ j t. c.requires.1 j (spread-among _ _ j c.args.shares.now _ _ (omega arith) c.loop-i-test.true t)))
-
-pub overflow_add-i : goal.overflow_add-i
-overflow_add-i c =
-    omega arith
-
-pub loop-i-smaller : goal.loop-i-smaller
-loop-i-smaller c =
-    omega arith
+    let g : length c.args.shares.now ≡ 8 = c.requires.0.1.1 in (readable-kept c.loop-i.invariant.0 c.requires.0.0, subst SharesFit (sym (spread-one-kept c.loop-i.invariant.0 c.requires.0.0 _)) (λ j t. c.requires.1 j (spread-among _ _ j c.args.shares.now _ _ (omega arith) c.loop-i-test.true t)))
 
 pub loop-i-preserved : goal.loop-i-preserved
 loop-i-preserved c =
     let g : length c.args.shares.now ≡ 8 = c.requires.0.1.1 in
-    let k = spread-one-kept c.loop-i.invariant.1 c.requires.0.0 (get_or c.args.shares.now c.loop-i.i 0) in (
-      omega arith,
-      only-trans c.loop-i.invariant.1
+    let k = spread-one-kept c.loop-i.invariant.0 c.requires.0.0 (get_or c.args.shares.now c.loop-i.i 0) in (
+      only-trans c.loop-i.invariant.0
           (rw (c.mark_one.ensures, k) (only-marked _ _ _ _ (λ j t. c.requires.1 j (spread-among _ _ j c.args.shares.now _ _ (omega arith) c.loop-i-test.true t)))),
-      rw (c.mark_one.ensures, k) (mark-next _ _ c.args.shares.now _ _ _ _ _ (omega arith) c.loop-i-test.true ∙ c.loop-i.invariant.2),
+      rw (c.mark_one.ensures, k) (mark-next _ _ c.args.shares.now _ _ _ _ _ (omega arith) c.loop-i-test.true ∙ c.loop-i.invariant.1),
     )
-
-pub shape_of-work : goal.shape_of-work
-shape_of-work c =
-    c.loop-i.invariant.1.size
 
 pub returns : goal.returns
 returns c =
-    sym (mark-end _ _ c.args.shares.now _ _ _ _ _ c.loop-i-test.false) ∙ c.loop-i.invariant.2
+    sym (mark-end _ _ c.args.shares.now _ _ _ _ _ c.loop-i-test.false) ∙ c.loop-i.invariant.1

@@ -3,10 +3,6 @@ use Rattle.run_footprint.proofs.Shares.{plain_fits, plain-marked}
 use Rattle.run_footprint.proofs.Cells.{chain-marked}
 use Rattle.run_footprint.proofs.mark_one.Goals as goal
 
-pub mark_chain-requires : goal.mark_chain-requires
-mark_chain-requires c =
-    c.requires.0
-
 pub returns-then-is_chain : goal.returns-then-is_chain
 returns-then-is_chain c =
     c.mark_chain.ensures ∙ chain-marked _ _ _ _ _ (sym c.is_chain.ensures ∙ c.if-is_chain.true) c.requires.0

@@ -1,8 +1,8 @@
-use mathlib.Core.Path.{sym}
+use mathlib.Core.Path.{refl}
 use Rattle.run_heap.specs.Views.{stop_of}
-use Rattle.run_footprint.specs.Footprints.{took_is, count_of}
+use Rattle.run_heap.specs.declared.Fault.{Fault}
 use Rattle.run_footprint.proofs.Taking.{new-lacking}
-use Rattle.run_footprint.proofs.Sieves.{took_more}
+use Rattle.run_footprint.proofs.Sieves.{took_more, nothing-taken}
 use native.Mathlib.Omega.{arith}
 use Rattle.run_footprint.proofs.put_seen.Goals as goal
 
@@ -11,9 +11,9 @@ halves_held-requires c =
     (c.requires.0.0.0.tables.size, c.requires.0.1)
 
 pub returns-then-halves_held-t : goal.returns-then-halves_held-t
-unfolding took_is stop_of count_of
+unfolding stop_of
 returns-then-halves_held-t c =
-    record { took = sym (new-lacking _ _ _ _ _ _ (omega (arith, c.if-halves_held-t.true, c.halves_held.ensures, c.taken.ensures.0))); count = omega arith; size = c.requires.1.1 }
+    nothing-taken _ Fault.Permission _ _ refl (new-lacking _ _ _ _ _ _ (omega (arith, c.if-halves_held-t.true, c.halves_held.ensures, c.taken.ensures.0))) c.requires.1.1
 
 pub returns : goal.returns
 returns c =

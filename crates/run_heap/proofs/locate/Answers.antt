@@ -1,17 +1,18 @@
-use Rattle.run_heap.specs.Views.{spot_is, spot}
+use Rattle.run_heap.specs.Views.{answered, spot}
 use Rattle.rules.specs.Base.{◌>>=◌}
 use Rattle.std.proofs.Common.{◌∙◌}
-use Rattle.run_heap.proofs.Reading.{found-small, spot-at, spot-lacking}
+use Rattle.run_heap.proofs.Reading.{found-small, answered-ok, answered-err, passed-on}
 use Rattle.run_heap.proofs.locate.Goals as goal
+
+pub returns-in_err-k : goal.returns-in_err-k
+unfolding answered spot ◌>>=◌
+returns-in_err-k c =
+    rw (passed-on _ _ c.from_residual.ensures.1, answered-err _ _ c.in_err-k.was c.find.ensures)
 
 pub held_cell-requires : goal.held_cell-requires
 held_cell-requires c =
-    ((c.requires.0.0.tables.size, found-small _ _ c.requires.0.0 (spot-at _ _ c.in-At.is c.find.ensures)), c.requires.0.1)
+    ((c.requires.0.0.tables.size, found-small _ _ c.requires.0.0 (answered-ok _ _ c.in_ok-k.was c.find.ensures)), c.requires.0.1)
 
-pub returns-in-At : goal.returns-in-At
+pub returns : goal.returns
 unfolding spot ◌>>=◌
-returns-in-At c = c.held_cell.ensures ∙ rw (spot-at _ _ c.in-At.is c.find.ensures)
-
-pub returns-in-Lacking : goal.returns-in-Lacking
-unfolding spot_is spot ◌>>=◌
-returns-in-Lacking c = rw (spot-lacking _ _ c.in-Lacking.is c.find.ensures)
+returns c = c.held_cell.ensures ∙ rw (answered-ok _ _ c.in_ok-k.was c.find.ensures)

@@ -1,3 +1,5 @@
+use mathlib.Core.Path.{ap, ◌∙◌}
+use Rattle.std.specs.Prelude.{Ok}
 use native.Mathlib.Omega.{arith}
 use Rattle.run_steps.proofs.Doing.{size, base-fits}
 use Rattle.run_returns.proofs.Resulting.{source_fits, end-ready, size-after, return-goes, return-stops, return-ends}
@@ -24,30 +26,30 @@ pub end_step-requires : goal.end_step-requires
 end_step-requires c =
     end-ready c.requires _ c.view_of-v.ensures _ _ c.source-x.ensures c.variable-n.ensures (search rules) c.put_word.ensures
 
-pub overflow_add-b-in-Stopped : goal.overflow_add-b-in-Stopped
-overflow_add-b-in-Stopped c =
+pub returns-in-Ok-Some : goal.returns-in-Ok-Some
+returns-in-Ok-Some c =
+    return-goes c.requires _ c.view_of-v.ensures _ _ c.source-x.ensures c.variable-n.ensures (search rules) c.put_word.ensures c.end_step.ensures _ (c.in-Ok-Some.is ∙ ap Ok c.in-Ok-Some.field-0-is)
+
+pub overflow_add-b-in-Ok-None : goal.overflow_add-b-in-Ok-None
+overflow_add-b-in-Ok-None c =
     omega (arith, base-fits c.requires c.view_of-v.ensures)
 
-pub put_word-requires-in-Stopped : goal.put_word-requires-in-Stopped
-put_word-requires-in-Stopped c =
+pub put_word-requires-in-Ok-None : goal.put_word-requires-in-Ok-None
+put_word-requires-in-Ok-None c =
     omega (arith, base-fits c.requires c.view_of-v.ensures, size-after c.requires _ c.view_of-v.ensures _ _ c.source-x.ensures c.variable-n.ensures (search rules) c.put_word.ensures c.end_step.ensures)
 
-pub overflow_add-b-in-Done : goal.overflow_add-b-in-Done
-overflow_add-b-in-Done c =
+pub overflow_add-b-in-Err : goal.overflow_add-b-in-Err
+overflow_add-b-in-Err c =
     omega (arith, base-fits c.requires c.view_of-v.ensures)
 
-pub put_word-requires-in-Done : goal.put_word-requires-in-Done
-put_word-requires-in-Done c =
+pub put_word-requires-in-Err : goal.put_word-requires-in-Err
+put_word-requires-in-Err c =
     omega (arith, base-fits c.requires c.view_of-v.ensures, size-after c.requires _ c.view_of-v.ensures _ _ c.source-x.ensures c.variable-n.ensures (search rules) c.put_word.ensures c.end_step.ensures)
 
-pub returns-in-On : goal.returns-in-On
-returns-in-On c =
-    return-goes c.requires _ c.view_of-v.ensures _ _ c.source-x.ensures c.variable-n.ensures (search rules) c.put_word.ensures c.end_step.ensures _ c.in-On.is
+pub returns-in-Ok-None : goal.returns-in-Ok-None
+returns-in-Ok-None c =
+    return-ends c.requires _ c.view_of-v.ensures _ _ c.source-x.ensures c.variable-n.ensures (search rules) c.put_word.ensures c.end_step.ensures _ c.variable-old.ensures (search rules) c.put_word-in-Ok-None.ensures (c.in-Ok-None.is ∙ ap Ok c.in-Ok-None.field-0-is)
 
-pub returns-in-Stopped : goal.returns-in-Stopped
-returns-in-Stopped c =
-    return-stops c.requires _ c.view_of-v.ensures _ _ c.source-x.ensures c.variable-n.ensures (search rules) c.put_word.ensures c.end_step.ensures _ c.variable-old.ensures (search rules) c.put_word-in-Stopped.ensures _ c.in-Stopped.is
-
-pub returns-in-Done : goal.returns-in-Done
-returns-in-Done c =
-    return-ends c.requires _ c.view_of-v.ensures _ _ c.source-x.ensures c.variable-n.ensures (search rules) c.put_word.ensures c.end_step.ensures _ c.variable-old.ensures (search rules) c.put_word-in-Done.ensures c.in-Done.is
+pub returns-in-Err : goal.returns-in-Err
+returns-in-Err c =
+    return-stops c.requires _ c.view_of-v.ensures _ _ c.source-x.ensures c.variable-n.ensures (search rules) c.put_word.ensures c.end_step.ensures _ c.variable-old.ensures (search rules) c.put_word-in-Err.ensures _ c.in-Err.is

@@ -1,7 +1,8 @@
 use native.Mathlib.Omega.{arith}
 use mathlib.Core.Path.{refl, sym, ◌∙◌}
 use Rattle.run_returns.proofs.Returning.{last-saved, end-done, end-stops, end-atoms, end-takes}
-use Rattle.run_steps.proofs.Doing.{size, view-readable}
+use Rattle.run_steps.proofs.Doing.{does-answer, size, view-readable}
+use Rattle.run_heap.proofs.Reading.{passed-on}
 use Rattle.run_footprint.proofs.Taking.{took-shares, took-lacking, count-shares}
 use Rattle.run_returns.proofs.end_step.Goals as goal
 
@@ -26,11 +27,12 @@ leave-requires c =
       ready = c.requires;
       inner = c.if-c-eq1.false;
       size = c.footprint.ensures.size;
-      count = count-shares _ _ _ c.in-Shares.is c.footprint.ensures.count;
+      count = count-shares _ _ _ c.in_ok-k.was c.footprint.ensures.count;
       took = sym (end-takes c.requires c.if-c-eq1.false _ _ _ c.method_of-m.ensures c.ensures_first-first.ensures.0 c.ensures_count-n.ensures.0 _ c.view_of-v.ensures) ∙ took-shares _ _ _
-          c.in-Shares.is c.footprint.ensures.took;
+          c.in_ok-k.was c.footprint.ensures.took;
     }
 
-pub returns-in-Lacking : goal.returns-in-Lacking
-returns-in-Lacking c =
-    end-stops c.requires c.if-c-eq1.false _ (sym (end-takes c.requires c.if-c-eq1.false _ _ _ c.method_of-m.ensures c.ensures_first-first.ensures.0 c.ensures_count-n.ensures.0 _ c.view_of-v.ensures) ∙ took-lacking _ _ _ c.in-Lacking.is c.footprint.ensures.took)
+pub returns-in_err-k : goal.returns-in_err-k
+returns-in_err-k c =
+    does-answer (sym (passed-on _ _ c.from_residual.ensures.1))
+    (end-stops c.requires c.if-c-eq1.false _ (sym (end-takes c.requires c.if-c-eq1.false _ _ _ c.method_of-m.ensures c.ensures_first-first.ensures.0 c.ensures_count-n.ensures.0 _ c.view_of-v.ensures) ∙ took-lacking _ _ _ c.in_err-k.was c.footprint.ensures.took))

@@ -1,20 +1,21 @@
-use Rattle.run_steps.proofs.Doing.{view-readable, if-holds, if-fails, if-stops}
-use mathlib.Core.Path.{◌∙◌}
-use Rattle.run_footprint.proofs.Taking.{truth-holds, truth-fails, truth-lacking}
+use Rattle.run_steps.proofs.Doing.{does-answer, view-readable, if-holds, if-fails, if-stops}
+use mathlib.Core.Path.{ap, ◌∙◌, sym}
+use Rattle.std.specs.Prelude.{Ok}
+use Rattle.run_heap.proofs.Reading.{answered-ok, answered-err, passed-on}
 use Rattle.run_steps.proofs.choose.Goals as goal
 
 pub condition-requires : goal.condition-requires
 condition-requires c =
     (view-readable c.requires.0 c.view_of.ensures, c.requires.2)
 
-pub returns-in-Holds : goal.returns-in-Holds
-returns-in-Holds c =
-    if-holds c.requires.0 c.requires.1 _ _ c.requires.2 c.view_of.ensures (truth-holds _ c.in-Holds.is c.condition.ensures) c.next.ensures
+pub returns-then-holds : goal.returns-then-holds
+returns-then-holds c =
+    if-holds c.requires.0 c.requires.1 _ _ c.requires.2 c.view_of.ensures (answered-ok _ _ (c.in_ok-holds.was ∙ ap Ok c.if-holds.true) c.condition.ensures) c.next.ensures
 
-pub returns-in-Fails : goal.returns-in-Fails
-returns-in-Fails c =
-    if-fails c.requires.0 c.requires.1 _ _ c.requires.2 c.view_of.ensures (truth-fails _ c.in-Fails.is c.condition.ensures) (c.next-in-Fails.ensures ∙ rw c.target_at.ensures.0)
+pub returns : goal.returns
+returns c =
+    if-fails c.requires.0 c.requires.1 _ _ c.requires.2 c.view_of.ensures (answered-ok _ _ (c.in_ok-holds.was ∙ ap Ok c.if-holds.false) c.condition.ensures) (c.next-2.ensures ∙ rw c.target_at.ensures.0)
 
-pub returns-in-Lacking : goal.returns-in-Lacking
-returns-in-Lacking c =
-    if-stops c.requires.0 c.requires.1 _ _ c.requires.2 c.view_of.ensures _ (truth-lacking _ _ c.in-Lacking.is c.condition.ensures)
+pub returns-in_err-holds : goal.returns-in_err-holds
+returns-in_err-holds c =
+    does-answer (sym (passed-on _ _ c.from_residual.ensures.1)) (if-stops c.requires.0 c.requires.1 _ _ c.requires.2 c.view_of.ensures _ (answered-err _ _ c.in_err-holds.was c.condition.ensures))

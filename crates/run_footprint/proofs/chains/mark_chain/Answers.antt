@@ -1,7 +1,7 @@
 use mathlib.Core.Path.{◌≡◌, sym, ◌∙◌}
 use Prim.Native.Nat.{◌<◌, ◌-◌}
 use Rattle.tables.specs.Layout.{most_names}
-use Rattle.run_heap.proofs.Reading.{cell-small, found-is, spot-at, spot-lacking}
+use Rattle.run_heap.proofs.Reading.{cell-small, found-is, answered-ok, answered-err}
 use Rattle.run_heap.proofs.Walking.{found_none}
 use Rattle.run_footprint.proofs.Regions.{only-refl, only-trans}
 use Rattle.run_footprint.proofs.Handing.{only-handed}
@@ -15,47 +15,31 @@ cache_of-c-requires c =
 
 pub loop-i-init : goal.loop-i-init
 loop-i-init c =
-    (omega arith, only-refl _ _ _, let e : c.args.v.objects - 0 ≡ c.args.v.objects = omega arith in rw (e, c.field_of-f.ensures, c.start_of-at.ensures))
+    (only-refl _ _ _, let e : c.args.v.objects - 0 ≡ c.args.v.objects = omega arith in rw (e, c.field_of-f.ensures, c.start_of-at.ensures))
 
 pub cell_by-requires : goal.cell_by-requires
 cell_by-requires c =
     let l : c.field_of-f.result < most_names = omega (arith, c.field_of-f.ensures) in
-    ((readable-kept c.loop-i.invariant.1 c.requires, caches-kept c.loop-i.invariant.1 c.requires _ _ l c.cache_of-c.ensures), l)
-
-pub shape_of-work-in_default : goal.shape_of-work-in_default
-shape_of-work-in_default c =
-    c.loop-i.invariant.1.size
+    ((readable-kept c.loop-i.invariant.0 c.requires, caches-kept c.loop-i.invariant.0 c.requires _ _ l c.cache_of-c.ensures), l)
 
 pub returns-in_default : goal.returns-in_default
 returns-in_default c =
-    sym (over-end _ _ _ _ _ _ _ _ c.loop-i-test.true (found_none _ _ _ _ _ (spot-lacking _ _ c.in_default.is c.cell_by.ensures))) ∙ c.loop-i.invariant.2
+    sym (over-end _ _ _ _ _ _ _ _ c.loop-i-test.true (found_none _ _ _ _ _ (answered-err _ _ c.in_default.is c.cell_by.ensures))) ∙ c.loop-i.invariant.1
 
 pub cell_value-at-requires : goal.cell_value-at-requires
 cell_value-at-requires c =
-    let R = readable-kept c.loop-i.invariant.1 c.requires in (R.tables.size, cell-small _ _ R.tables R.object (found-is _ _ _ _ _ (spot-at _ _ c.in-At.is c.cell_by.ensures)))
+    let R = readable-kept c.loop-i.invariant.0 c.requires in (R.tables.size, cell-small _ _ R.tables R.object (found-is _ _ _ _ _ (answered-ok _ _ c.in-Ok.is c.cell_by.ensures)))
 
 pub hand_over-requires : goal.hand_over-requires
 hand_over-requires c =
-    let R = readable-kept c.loop-i.invariant.1 c.requires in (R.tables.size, cell-small _ _ R.tables R.object (found-is _ _ _ _ _ (spot-at _ _ c.in-At.is c.cell_by.ensures)))
-
-pub overflow_add-i : goal.overflow_add-i
-overflow_add-i c =
-    omega arith
-
-pub loop-i-smaller : goal.loop-i-smaller
-loop-i-smaller c =
-    omega arith
+    let R = readable-kept c.loop-i.invariant.0 c.requires in (R.tables.size, cell-small _ _ R.tables R.object (found-is _ _ _ _ _ (answered-ok _ _ c.in-Ok.is c.cell_by.ensures)))
 
 pub loop-i-preserved : goal.loop-i-preserved
 loop-i-preserved c =
-    let R = readable-kept c.loop-i.invariant.1 c.requires in
-    let e = found-is _ _ _ _ _ (spot-at _ _ c.in-At.is c.cell_by.ensures) in
-    (omega arith, rw c.hand_over.ensures (only-trans c.loop-i.invariant.1 (only-handed _ _ _ _ _ (cell-small _ _ R.tables R.object e))), rw (c.hand_over.ensures, c.cell_value-at.ensures) (over-on _ _ _ _ _ _ _ _ _ c.loop-i-test.true e ∙ c.loop-i.invariant.2))
-
-pub shape_of-work : goal.shape_of-work
-shape_of-work c =
-    c.loop-i.invariant.1.size
+    let R = readable-kept c.loop-i.invariant.0 c.requires in
+    let e = found-is _ _ _ _ _ (answered-ok _ _ c.in-Ok.is c.cell_by.ensures) in
+    (rw c.hand_over.ensures (only-trans c.loop-i.invariant.0 (only-handed _ _ _ _ _ (cell-small _ _ R.tables R.object e))), rw (c.hand_over.ensures, c.cell_value-at.ensures) (over-on _ _ _ _ _ _ _ _ _ c.loop-i-test.true e ∙ c.loop-i.invariant.1))
 
 pub returns : goal.returns
 returns c =
-    sym (over-past _ _ _ _ _ _ _ _ c.loop-i-test.false) ∙ c.loop-i.invariant.2
+    sym (over-past _ _ _ _ _ _ _ _ c.loop-i-test.false) ∙ c.loop-i.invariant.1

@@ -1,8 +1,8 @@
-use mathlib.Core.Path.{sym, ◌∙◌}
+use mathlib.Core.Path.{refl, sym, ◌∙◌}
 use Rattle.run_heap.specs.Views.{stop_of}
-use Rattle.run_footprint.specs.Footprints.{took_is, count_of}
+use Rattle.run_heap.specs.declared.Fault.{Fault}
 use Rattle.run_footprint.proofs.Taking.{chain-met}
-use Rattle.run_footprint.proofs.Sieves.{sieve-none, sieve-all, took-chain}
+use Rattle.run_footprint.proofs.Sieves.{nothing-more, sieve-all, took-chain}
 use native.Mathlib.Omega.{arith}
 use Rattle.run_footprint.proofs.chains.put_chain.Goals as goal
 
@@ -11,13 +11,9 @@ ends_at-requires c =
     ((c.requires.0, omega (arith, c.field_of.ensures)), (omega (arith, c.requires.1.0.0), c.requires.1.0.1))
 
 pub returns-then-ends_at : goal.returns-then-ends_at
-unfolding took_is stop_of count_of
+unfolding stop_of
 returns-then-ends_at c =
-    (record { took = sym (chain-met _ _ _ _ _ (rw c.field_of.ensures at (sym c.ends_at.ensures ∙ c.if-ends_at.true))); count = omega arith; size = c.requires.1.0.1 }, sieve-none c.args.shares.now _ c.requires.1.1.size)
-
-pub fill_seen-requires : goal.fill_seen-requires
-fill_seen-requires c =
-    c.requires.1.1.size
+    nothing-more _ Fault.Permission _ _ _ refl (chain-met _ _ _ _ _ (rw c.field_of.ensures at (sym c.ends_at.ensures ∙ c.if-ends_at.true))) c.requires.1
 
 pub returns : goal.returns
 returns c =

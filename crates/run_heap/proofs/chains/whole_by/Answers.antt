@@ -1,20 +1,20 @@
-use Rattle.run_heap.specs.Views.{spot_is}
+use Rattle.run_heap.specs.Views.{answered}
 use Rattle.run_heap.specs.Chains.{whole_cell}
 use Rattle.rules.specs.Base.{◌>>=◌}
 use Rattle.std.proofs.Common.{◌∙◌, arith}
-use Rattle.run_heap.proofs.Reading.{cell-small, found-is, spot-at, spot-lacking}
+use Rattle.run_heap.proofs.Reading.{cell-small, found-is, answered-ok, answered-err, passed-on}
 use Rattle.run_heap.proofs.chains.whole_by.Goals as goal
+
+pub returns-in_err-k : goal.returns-in_err-k
+unfolding answered whole_cell ◌>>=◌
+returns-in_err-k c =
+    rw (passed-on _ _ c.from_residual.ensures.1, answered-err _ _ c.in_err-k.was c.cell_by.ensures)
 
 pub held_cell-requires : goal.held_cell-requires
 held_cell-requires c =
-    ((c.requires.0.0.tables.size, cell-small _ _ c.requires.0.0.tables c.requires.0.0.object (found-is _ _ _ _ _ (spot-at _ _ c.in-At.is c.cell_by.ensures))), (omega arith, omega arith))
+    ((c.requires.0.0.tables.size, cell-small _ _ c.requires.0.0.tables c.requires.0.0.object (found-is _ _ _ _ _ (answered-ok _ _ c.in_ok-k.was c.cell_by.ensures))), (omega arith, omega arith))
 
-pub returns-in-At : goal.returns-in-At
+pub returns : goal.returns
 unfolding whole_cell ◌>>=◌
-returns-in-At c =
-    c.held_cell.ensures ∙ rw (spot-at _ _ c.in-At.is c.cell_by.ensures)
-
-pub returns-in-Lacking : goal.returns-in-Lacking
-unfolding spot_is whole_cell ◌>>=◌
-returns-in-Lacking c =
-    rw (spot-lacking _ _ c.in-Lacking.is c.cell_by.ensures)
+returns c =
+    c.held_cell.ensures ∙ rw (answered-ok _ _ c.in_ok-k.was c.cell_by.ensures)

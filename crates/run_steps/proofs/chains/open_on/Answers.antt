@@ -1,6 +1,6 @@
-use mathlib.Core.Path.{refl}
-use Rattle.run_heap.proofs.Reading.{read-got, read-lacking}
-use Rattle.run_steps.proofs.Doing.{fits, size, frames-fit, base-fits, row_small, view-readable, open-operands, open-small, open-does, open-walk-stops}
+use mathlib.Core.Path.{refl, sym}
+use Rattle.run_heap.proofs.Reading.{answered-ok, answered-err, passed-on}
+use Rattle.run_steps.proofs.Doing.{does-answer, fits, size, frames-fit, base-fits, row_small, view-readable, open-operands, open-small, open-does, open-walk-stops}
 use native.Mathlib.Omega.{arith}
 use borrow.Author.Rules.{rules}
 use Rattle.run_steps.proofs.chains.open_on.Goals as goal
@@ -37,10 +37,10 @@ pub next-requires : goal.next-requires
 next-requires c =
     c.requires.ready.more
 
-pub returns-in-Got : goal.returns-in-Got
-returns-in-Got c =
-    open-does c.requires _ _ c.view_of-v.ensures c.cell_value-n.ensures _ _ c.x_at-y.ensures.0 (search rules) (read-got _ _ c.in-Got.is c.walk.ensures) c.put_word.ensures c.next.ensures
+pub returns : goal.returns
+returns c =
+    open-does c.requires _ _ c.view_of-v.ensures c.cell_value-n.ensures _ _ c.x_at-y.ensures.0 (search rules) (answered-ok _ _ c.in_ok-walk.was c.walk.ensures) c.put_word.ensures c.next.ensures
 
-pub returns-in-Lacking : goal.returns-in-Lacking
-returns-in-Lacking c =
-    open-walk-stops c.requires _ _ c.view_of-v.ensures c.cell_value-n.ensures _ (read-lacking _ _ c.in-Lacking.is c.walk.ensures)
+pub returns-in_err-walk : goal.returns-in_err-walk
+returns-in_err-walk c =
+    does-answer (sym (passed-on _ _ c.from_residual.ensures.1)) (open-walk-stops c.requires _ _ c.view_of-v.ensures c.cell_value-n.ensures _ (answered-err _ _ c.in_err-walk.was c.walk.ensures))

@@ -1,5 +1,6 @@
-use Rattle.run_heap.proofs.Reading.{spot-at, spot-lacking}
-use Rattle.run_steps.proofs.Doing.{view-readable, open-operands, open-stops}
+use mathlib.Core.Path.{sym}
+use Rattle.run_heap.proofs.Reading.{answered-ok, answered-err, passed-on}
+use Rattle.run_steps.proofs.Doing.{does-answer, view-readable, open-operands, open-stops}
 use native.Mathlib.Omega.{arith}
 use Rattle.run_steps.proofs.chains.open_step.Goals as goal
 
@@ -9,12 +10,12 @@ locate-requires c =
 
 pub open_on-requires : goal.open_on-requires
 open_on-requires c =
-    record { ready = c.requires.0; at_open = c.requires.1; field = c.member_at-f.ensures.0; cell = rw (← c.view_of-v.ensures, ← c.y_at-x.ensures.0) (spot-at _ _ c.in-At.is c.locate.ensures) }
+    record { ready = c.requires.0; at_open = c.requires.1; field = c.member_at-f.ensures.0; cell = rw (← c.view_of-v.ensures, ← c.y_at-x.ensures.0) (answered-ok _ _ c.in_ok-k.was c.locate.ensures) }
 
-pub returns-in-At : goal.returns-in-At
-returns-in-At c =
+pub returns : goal.returns
+returns c =
     c.open_on.ensures
 
-pub returns-in-Lacking : goal.returns-in-Lacking
-returns-in-Lacking c =
-    open-stops c.requires.0 c.requires.1 _ c.view_of-v.ensures _ _ _ c.y_at-x.ensures.0 c.member_at-f.ensures.0 (spot-lacking _ _ c.in-Lacking.is c.locate.ensures)
+pub returns-in_err-k : goal.returns-in_err-k
+returns-in_err-k c =
+    does-answer (sym (passed-on _ _ c.from_residual.ensures.1)) (open-stops c.requires.0 c.requires.1 _ c.view_of-v.ensures _ _ _ c.y_at-x.ensures.0 c.member_at-f.ensures.0 (answered-err _ _ c.in_err-k.was c.locate.ensures))

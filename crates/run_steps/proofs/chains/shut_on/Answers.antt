@@ -1,6 +1,6 @@
-use mathlib.Core.Path.{refl}
-use Rattle.run_heap.proofs.Reading.{read-got, read-lacking}
-use Rattle.run_steps.proofs.Doing.{size, frames-fit, view-readable, shut-operands, shut-small, shut-walked, shut-walk-stops}
+use mathlib.Core.Path.{refl, sym}
+use Rattle.run_heap.proofs.Reading.{answered-ok, answered-err, passed-on}
+use Rattle.run_steps.proofs.Doing.{does-answer, size, frames-fit, view-readable, shut-operands, shut-small, shut-walked, shut-walk-stops}
 use Rattle.run_steps.proofs.chains.shut_on.Goals as goal
 
 pub view_of-v-requires : goal.view_of-v-requires
@@ -17,12 +17,12 @@ walk-requires c =
 
 pub shut_whole-requires : goal.shut_whole-requires
 shut_whole-requires c =
-    shut-walked c.requires _ _ c.view_of-v.ensures c.cell_value.ensures _ (read-got _ _ c.in-Got.is c.walk.ensures)
+    shut-walked c.requires _ _ c.view_of-v.ensures c.cell_value.ensures _ (answered-ok _ _ c.in_ok-walk.was c.walk.ensures)
 
-pub returns-in-Got : goal.returns-in-Got
-returns-in-Got c =
+pub returns : goal.returns
+returns c =
     c.shut_whole.ensures
 
-pub returns-in-Lacking : goal.returns-in-Lacking
-returns-in-Lacking c =
-    shut-walk-stops c.requires _ _ c.view_of-v.ensures c.cell_value.ensures _ (read-lacking _ _ c.in-Lacking.is c.walk.ensures)
+pub returns-in_err-walk : goal.returns-in_err-walk
+returns-in_err-walk c =
+    does-answer (sym (passed-on _ _ c.from_residual.ensures.1)) (shut-walk-stops c.requires _ _ c.view_of-v.ensures c.cell_value.ensures _ (answered-err _ _ c.in_err-walk.was c.walk.ensures))

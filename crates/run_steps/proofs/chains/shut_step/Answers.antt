@@ -1,5 +1,6 @@
-use Rattle.run_heap.proofs.Reading.{spot-at, spot-lacking}
-use Rattle.run_steps.proofs.Doing.{view-readable, shut-operands, shut-stops}
+use mathlib.Core.Path.{sym}
+use Rattle.run_heap.proofs.Reading.{answered-ok, answered-err, passed-on}
+use Rattle.run_steps.proofs.Doing.{does-answer, view-readable, shut-operands, shut-stops}
 use native.Mathlib.Omega.{arith}
 use Rattle.run_steps.proofs.chains.shut_step.Goals as goal
 
@@ -9,12 +10,12 @@ locate-requires c =
 
 pub shut_on-requires : goal.shut_on-requires
 shut_on-requires c =
-    record { ready = c.requires.0; at_shut = c.requires.1; field = c.member_at-f.ensures.0; cell = rw (← c.view_of-v.ensures, ← c.x_at-x.ensures.0) (spot-at _ _ c.in-At.is c.locate.ensures) }
+    record { ready = c.requires.0; at_shut = c.requires.1; field = c.member_at-f.ensures.0; cell = rw (← c.view_of-v.ensures, ← c.x_at-x.ensures.0) (answered-ok _ _ c.in_ok-k.was c.locate.ensures) }
 
-pub returns-in-At : goal.returns-in-At
-returns-in-At c =
+pub returns : goal.returns
+returns c =
     c.shut_on.ensures
 
-pub returns-in-Lacking : goal.returns-in-Lacking
-returns-in-Lacking c =
-    shut-stops c.requires.0 c.requires.1 _ _ _ _ c.view_of-v.ensures c.x_at-x.ensures.0 c.member_at-f.ensures.0 (spot-lacking _ _ c.in-Lacking.is c.locate.ensures)
+pub returns-in_err-k : goal.returns-in_err-k
+returns-in_err-k c =
+    does-answer (sym (passed-on _ _ c.from_residual.ensures.1)) (shut-stops c.requires.0 c.requires.1 _ _ _ _ c.view_of-v.ensures c.x_at-x.ensures.0 c.member_at-f.ensures.0 (answered-err _ _ c.in_err-k.was c.locate.ensures))
