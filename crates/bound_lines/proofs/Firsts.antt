@@ -23,8 +23,8 @@ use Rattle.bound_rows.specs.Lines.{line_in, Says, blocks_in}
 use Rattle.bound_rows.proofs.Lines.{says, row-after, call-there, blocks-count, block-there}
 use Rattle.bound_lines.specs.declared.Seen.{Seen}
 use Rattle.bound_lines.specs.declared.Seen.TheVariants.{Repeats, Ends, Goes}
-use Rattle.bound_lines.specs.declared.Place.{Place}
-use Rattle.bound_lines.specs.declared.Place.TheVariants.{At, Nowhere}
+use Rattle.std.specs.Prelude as Code
+use Rattle.std.specs.Prelude.{Some, None}
 use Rattle.bound_lines.specs.Lines.{CallThere, looked_at, place_of, first_of}
 
 -- A LINE
@@ -63,8 +63,8 @@ module _ (w : List ℕ) (tables : Tables w) (o : Option ℕ) (i : ℕ) (l : i < 
 
   -- what it is to a bound tells whether it is refused, and whether its block goes on
   abbrev Told : Seen → Type 0
-  Told Repeats = place_of (first_in bs o (block P i)) ≡ At (line_at w i)
-  Told Ends = place_of (first_in bs o (block P i)) ≡ Nowhere
+  Told Repeats = place_of (first_in bs o (block P i)) ≡ Some (line_at w i)
+  Told Ends = place_of (first_in bs o (block P i)) ≡ None
   Told Goes = (place_of (first_in bs o (block P (suc i))) ≡ place_of (first_in bs o (block P i))) × (suc i < row_count w)
 
   is-line : (row_numbered P i).line ≡ line_at w i
@@ -73,7 +73,7 @@ module _ (w : List ℕ) (tables : Tables w) (o : Option ℕ) (i : ℕ) (l : i < 
 
   refused : (b : Block) → block P i ≡ row_numbered P i ∷ b → repeats bs o (row_numbered P i).stmt ≡ true → Told Repeats
   unfolding place_of
-  refused b e h = ap (λ b. place_of (first_in bs o b)) e ∙ ap place_of (tested b) ∙ rw h (ap At is-line)
+  refused b e h = ap (λ b. place_of (first_in bs o b)) e ∙ ap place_of (tested b) ∙ rw h (ap Some is-line)
 
   passed :
       (b : Block) → block P i ≡ row_numbered P i ∷ b → repeats bs o (row_numbered P i).stmt ≡ false →
@@ -98,7 +98,7 @@ module _ (w : List ℕ) (tables : Tables w) (o : Option ℕ) (i : ℕ) (l : i < 
   told Lines.End e (a, b, c) =
       sym (passed [] (block-ends P i a) (other-repeats bs o (row_numbered P i).stmt b ∙ c)) ∙ nothing
     where
-      nothing : place_of (first_in bs o []) ≡ Nowhere
+      nothing : place_of (first_in bs o []) ≡ None
       nothing = refl
 
   module _ (v : Line) (e : v ≡ line_in w i) (s : Seen) (h : s ≡ looked_at bs o v) where
@@ -106,10 +106,10 @@ module _ (w : List ℕ) (tables : Tables w) (o : Option ℕ) (i : ℕ) (l : i < 
     says_so =
         subst Told (sym h) (told v e (subst (λ v. Says v (row_numbered P i).stmt) (sym e) (says (row_numbered P i).stmt)))
 
-    pub is-refused : s ≡ Repeats → first_of w o i ≡ At (line_at w i)
+    pub is-refused : s ≡ Repeats → first_of w o i ≡ Some (line_at w i)
     is-refused q = subst Told q says_so
 
-    pub is_last : s ≡ Ends → first_of w o i ≡ Nowhere
+    pub is_last : s ≡ Ends → first_of w o i ≡ None
     is_last q = subst Told q says_so
 
     pub is-passed : (n : ℕ) → n ≡ i + 1 → s ≡ Goes → (n < row_count w) × (first_of w o n ≡ first_of w o i)
@@ -117,7 +117,7 @@ module _ (w : List ℕ) (tables : Tables w) (o : Option ℕ) (i : ℕ) (l : i < 
 
 -- BLOCK BY BLOCK
 -- the place of the first in the blocks from number a on
-abbrev pub place_from : List ℕ → ℕ → Place
+abbrev pub place_from : List ℕ → ℕ → Code.Option ℕ
 place_from w a = place_of (first_from (blocks_in w) a (drop a (blocks_in w)) (block (program_in w) (main_first w)))
 
 pub place-whole : (w : List ℕ) → place_from w 0 ≡ place_of (first_repeating (program_in w))
@@ -148,22 +148,22 @@ module _ (w : List ℕ) (a : ℕ) (l : a < method_count w) where
       ∙ ap (λ b. place_of (or_later (first_in (blocks_in w) (some a) b) after)) (block-there w a l)
 
   -- what the block gave
-  module _ (f : ℕ) (e : f ≡ first_row_at w a) (r : Place) (h : r ≡ first_of w (some a) f) where
+  module _ (f : ℕ) (e : f ≡ first_row_at w a) (r : Code.Option ℕ) (h : r ≡ first_of w (some a) f) where
     is : r ≡ place_of found
     is = h ∙ ap (first_of w (some a)) e
 
-    pub place_here : (n : ℕ) → r ≡ At n → At n ≡ place_from w a
+    pub place_here : (n : ℕ) → r ≡ Some n → Some n ≡ place_from w a
     unfolding or_later place_of
     place_here n q = go found refl
       where
-        go : (o : Option Row) → found ≡ o → At n ≡ place_from w a
-        go none v = absurd (let y : At n ≡ Nowhere = sym q ∙ is ∙ ap place_of v in let z : ◌≡◌ {A = ℕ} 0 1 = cc in omega arith)
+        go : (o : Option Row) → found ≡ o → Some n ≡ place_from w a
+        go none v = absurd (let y : Some n ≡ None = sym q ∙ is ∙ ap place_of v in cc)
         go (some k) v = sym q ∙ is ∙ ap place_of v ∙ sym (split ∙ ap (λ o. place_of (or_later o after)) v)
 
-    pub place-later : r ≡ Nowhere → place_from w (a + 1) ≡ place_from w a
+    pub place-later : r ≡ None → place_from w (a + 1) ≡ place_from w a
     unfolding or_later place_of
     place-later q = go found refl
       where
         go : (o : Option Row) → found ≡ o → place_from w (a + 1) ≡ place_from w a
         go none v = rw (add-one a) (sym (split ∙ ap (λ o. place_of (or_later o after)) v))
-        go (some k) v = absurd (let y : Nowhere ≡ At k.line = sym q ∙ is ∙ ap place_of v in let z : ◌≡◌ {A = ℕ} 0 1 = cc in omega arith)
+        go (some k) v = absurd (let y : None ≡ Some k.line = sym q ∙ is ∙ ap place_of v in cc)

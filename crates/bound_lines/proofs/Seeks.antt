@@ -37,7 +37,7 @@ false-or-true true = inl refl
 false-or-true false = inr refl
 
 clash : false ≡ true → ⊥
-clash e = let z : ◌≡◌ {A = ℕ} 0 1 = cc in omega arith
+clash e = cc
 
 grows_same : (q : Reached) → Grows q q
 grows_same q = record { keeps = λ n h. h; same = λ k l. refl; more = omega arith }
@@ -199,13 +199,13 @@ module _ (w : List ℕ) (tables : Tables w) (c : ℕ) where
       gather-plain n r e =
           let (a, b, _) = stmt_says Lines.Plain e in
           skip n r (ap callees (block_goes P row a) ∙ callees-none (row_numbered P row) (block P (suc row)) b)
-          (not_end Lines.Plain e (λ x. let z : ◌≡◌ {A = ℕ} 0 1 = cc in omega arith))
+          (not_end Lines.Plain e (λ x. cc))
 
       pub gather-loop : (n : ℕ) → n ≡ row + 1 → Lines.Loop ≡ line_in w row → Gathering k n
       gather-loop n r e =
           let (a, b, _) = stmt_says Lines.Loop e in
           skip n r (ap callees (block_goes P row a) ∙ callees-none (row_numbered P row) (block P (suc row)) b)
-          (not_end Lines.Loop e (λ x. let z : ◌≡◌ {A = ℕ} 0 1 = cc in omega arith))
+          (not_end Lines.Loop e (λ x. cc))
 
       pub called-small : (d : ℕ) → Lines.Call d ≡ line_in w row → (d < most_methods) × (k.count ≤ most_methods)
       called-small d e =
@@ -233,7 +233,7 @@ module _ (w : List ℕ) (tables : Tables w) (c : ℕ) where
                 (λ u. ⊎_elim (λ y. inl y) (λ z. inr (subst (Has (added k d)) (sym z) A.there)) (head-or (subst (Member x) is u)))
                 (λ u. inr (A.grows.keeps x u))
                 (G.rest x j);
-            within = not_end (Lines.Call d) e (λ x. let z : ◌≡◌ {A = ℕ} 0 1 = cc in omega arith);
+            within = not_end (Lines.Call d) e (λ x. cc);
           }))
 
   -- THE SEARCH

@@ -22,13 +22,6 @@ pub struct Reached {
     pub count: usize,
 }
 
-// The block that a line is in.
-#[derive(Clone, Copy)]
-pub enum Owner {
-    Main,
-    Method(usize),
-}
-
 #[derive(Clone, Copy)]
 pub enum Seen {
     Repeats,
@@ -36,31 +29,23 @@ pub enum Seen {
     Goes,
 }
 
-#[derive(Clone, Copy)]
-pub enum Place {
-    At(usize),
-    Nowhere,
-}
-
-fn look_call(work: &[u8], owner: Owner, c: usize) -> Seen
+// In each function the owner is the method that the line is in; in main there is none.
+fn look_call(work: &[u8], owner: Option<usize>, c: usize) -> Seen
     requires { Tables work.now × (OwnerFits owner × (c < method_count work.now)) }
     ensures { result ≡ looked_at (blocks_in work.now) (owner_of owner) (Line.Call c) }
 {
-    match owner {
-        Owner::Main => Seen::Goes,
-        Owner::Method(a) => {
-            let q = reach(work, c);
-            let has = q.has;
-            if has[a] {
-                return Seen::Repeats;
-            }
-            Seen::Goes
-        }
+    let Some(a) = owner else {
+        return Seen::Goes;
+    };
+    let q = reach(work, c);
+    if q.has[a] {
+        return Seen::Repeats;
     }
+    Seen::Goes
 }
 
 // Is the line one that leaves no bound, or the last of its block?
-fn look(work: &[u8], owner: Owner, line: Line) -> Seen
+fn look(work: &[u8], owner: Option<usize>, line: Line) -> Seen
     requires { Tables work.now × (OwnerFits owner × CallThere work.now line) }
     ensures { result ≡ looked_at (blocks_in work.now) (owner_of owner) line }
 {
@@ -73,19 +58,20 @@ fn look(work: &[u8], owner: Owner, line: Line) -> Seen
 }
 
 // The first such line of the block that starts at this row.
-fn first_in(work: &[u8], owner: Owner, start: usize) -> Place
+fn first_in(work: &[u8], owner: Option<usize>, start: usize) -> Option<usize>
     requires { Tables work.now × (OwnerFits owner × (start < row_count work.now)) }
     ensures { result ≡ first_of work.now (owner_of owner) start }
 {
     let mut row = start;
+    // A loop: which row is the block's `end` is known only there.
     loop {
         let line = bound_rows::line_at(work, row);
         match look(work, owner, line) {
             Seen::Repeats => {
-                return Place::At(tables::line_at(work, row));
+                return Some(tables::line_at(work, row));
             }
             Seen::Ends => {
-                return Place::Nowhere;
+                return None;
             }
             Seen::Goes => {
                 row += 1;
@@ -95,23 +81,14 @@ fn first_in(work: &[u8], owner: Owner, start: usize) -> Place
 }
 
 // The first such line of the text.
-pub fn first_line(work: &[u8]) -> Place
+pub fn first_line(work: &[u8]) -> Option<usize>
     requires { Tables work.now }
     ensures { result ≡ place_of (first_repeating (program_in work.now)) }
 {
-    let count = tables::method_count(work);
-    let mut a = 0;
-    while a < count {
-        let first = tables::first_row_at(work, a);
-        match first_in(work, Owner::Method(a), first) {
-            Place::At(l) => {
-                return Place::At(l);
-            }
-            Place::Nowhere => {
-                a += 1;
-            }
+    for a in 0..tables::method_count(work) {
+        if let Some(l) = first_in(work, Some(a), tables::first_row_at(work, a)) {
+            return Some(l);
         }
     }
-    let main = tables::main_first(work);
-    first_in(work, Owner::Main, main)
+    first_in(work, None, tables::main_first(work))
 }

@@ -39,22 +39,18 @@ fn gather(work: &[u8], q: Reached, m: usize, c: usize) -> Reached
 {
     let mut k = q;
     let mut row = tables::first_row_at(work, m);
+    // A loop: which row is the method's `end` is known only there.
     loop {
         match bound_rows::line_at(work, row) {
-            Line::Plain => {
-                row += 1;
-            }
-            Line::Loop => {
-                row += 1;
-            }
+            Line::Plain | Line::Loop => {}
             Line::Call(d) => {
                 k = add(k, d);
-                row += 1;
             }
             Line::End => {
                 return k;
             }
         }
+        row += 1;
     }
 }
 
@@ -80,10 +76,9 @@ pub fn reach(work: &[u8], c: usize) -> Reached
 {
     let mut q = begin(c);
     let mut head = 0;
+    // A while: the queue grows as it is looked through.
     while head < q.count {
-        let order = q.order;
-        let m = order[head];
-        q = gather(work, q, m, c);
+        q = gather(work, q, q.order[head], c);
         head += 1;
     }
     q

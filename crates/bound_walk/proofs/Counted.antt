@@ -6,6 +6,7 @@ use mathlib.Core.Logic.{⊎_elim}
 use mathlib.Core.Option.{none, some}
 use Prim.Native.Nat.{ℕ, suc, ◌+◌, ◌≤◌, ◌<◌, max}
 use native.Mathlib.Omega.{arith}
+use Rattle.std.specs.Prelude.{Ok, Err}
 use native.Mathlib.Numerals.{add-one}
 use lib.Dec.{T}
 use lib.ListN.{get_or}
@@ -27,10 +28,9 @@ use Rattle.bound_walk.specs.declared.Visit.{Visit}
 use Rattle.bound_walk.specs.declared.Visit.TheVariants.{NotVisited, OnRoute, Done}
 use Rattle.bound_walk.specs.declared.Reckoned.{Reckoned}
 use Rattle.bound_walk.specs.declared.Open.{Open}
-use Rattle.bound_walk.specs.declared.Halt.TheVariants as Halts
-use Rattle.bound_walk.specs.declared.Looked.{Looked}
-use Rattle.bound_walk.specs.declared.Looked.TheVariants.{On, Wait, Loop, End}
-use Rattle.bound_walk.specs.Counting.{cap, fresh, looked_call, looked, stopped_at, BoundFits, Counts, CallFits}
+use Rattle.bound_walk.specs.declared.Halt.{Halt}
+use Rattle.bound_walk.specs.declared.Halt.TheVariants.{Wait, Loop, End}
+use Rattle.bound_walk.specs.Counting.{Looked, cap, fresh, looked_call, looked, stopped_at, BoundFits, Counts, CallFits}
 use Rattle.bound_walk.specs.Walk.{Settled, settled, Right, SoundIn, Part, PartAt, Ended, NotDone, HasLoop, Scans}
 
 -- METHODS
@@ -139,6 +139,11 @@ last_line bs whole r o sum e n q P =
     }
 
 -- A ROW OF THE TABLES
+on-counts : {s f s' f' : ℕ} → ◌≡◌ {A = Looked} (Ok (s, f)) (Ok (s', f')) → (s ≡ s') × (f ≡ f')
+on-counts {s} {f} {s'} {f'} e =
+    let q : ◌≡◌ {A = ℕ × ℕ} (s, f) (s', f') = cc in
+    (ap (λ (p : ℕ × ℕ). p.0) q, ap (λ (p : ℕ × ℕ). p.1) q)
+
 call_fits : (w : List ℕ) → Tables w → (i : ℕ) → i < row_count w → (v : Line) → v ≡ line_in w i → CallFits v
 call_fits w tables i l Lines.Plain e = tt
 call_fits w tables i l (Lines.Call c) e = omega (arith, call-there w tables i l c (sym e), tables.methods)
@@ -159,12 +164,9 @@ module _ (w : List ℕ) (tables : Tables w) (marks : List Reckoned) (sound : Sou
     goes : is_end (row_numbered P i).stmt ≡ false → Part bs whole (row_numbered P i ∷ block P (suc i)) sum frames
     goes e = subst (λ b. Part bs whole b sum frames) (block_goes P i e) part
 
-    on-counts : {s f s' f' : ℕ} → ◌≡◌ {A = Looked} (On s f) (On s' f') → (s ≡ s') × (f ≡ f')
-    on-counts e = (cc, cc)
-
     -- it is counted
     counted-on :
-        (v : Line) → line_in w i ≡ v → (s f : ℕ) → On s f ≡ looked marks v sum frames → Part bs whole (block P (suc i)) s f
+        (v : Line) → line_in w i ≡ v → (s f : ℕ) → Ok (s, f) ≡ looked marks v sum frames → Part bs whole (block P (suc i)) s f
     unfolding looked looked_call
     counted-on Lines.Plain e s f q =
         let (a, b, c) = stmt_says Lines.Plain e in
@@ -172,25 +174,25 @@ module _ (w : List ℕ) (tables : Tables w) (marks : List Reckoned) (sound : Sou
         rw (x, y) (over_plain bs whole (row_numbered P i) (block P (suc i)) sum frames b c (goes a))
     counted-on (Lines.Call c) e s f q = call (get_or marks c fresh).visit (get_or marks c fresh).frames (sound c) q
       where
-        call : (v : Visit) (k : ℕ) → Right bs c v k → On s f ≡ looked_call v k c sum frames → Part bs whole (block P (suc i)) s f
-        call NotVisited k r q = absurd (let z : ◌≡◌ {A = ℕ} 0 1 = cc in omega arith)
-        call OnRoute k r q = absurd (let z : ◌≡◌ {A = ℕ} 0 1 = cc in omega arith)
+        call : (v : Visit) (k : ℕ) → Right bs c v k → Ok (s, f) ≡ looked_call v k c sum frames → Part bs whole (block P (suc i)) s f
+        call NotVisited k r q = absurd cc
+        call OnRoute k r q = absurd cc
         call (Done b) k (S, m, n) q =
             let (x, y, z) = stmt_says (Lines.Call c) e in
             let (g, h) = on-counts q in
             rw (g, h) (over-call bs whole (row_numbered P i) (block P (suc i)) sum frames c b k y z S m n (goes x))
-    counted-on Lines.Loop e s f q = absurd (let z : ◌≡◌ {A = ℕ} 0 1 = cc in omega arith)
-    counted-on Lines.End e s f q = absurd (let z : ◌≡◌ {A = ℕ} 0 1 = cc in omega arith)
+    counted-on Lines.Loop e s f q = absurd cc
+    counted-on Lines.End e s f q = absurd cc
 
     -- it calls a method that is not done
     waits-for :
-        (v : Line) → line_in w i ≡ v → (c : ℕ) → Wait c ≡ looked marks v sum frames →
+        (v : Line) → line_in w i ≡ v → (c : ℕ) → Err (Wait c) ≡ looked marks v sum frames →
         Member c (callees whole) × NotDone (get_or marks c fresh).visit
     unfolding looked looked_call
-    waits-for Lines.Plain e c q = absurd (let z : ◌≡◌ {A = ℕ} 0 1 = cc in omega arith)
+    waits-for Lines.Plain e c q = absurd cc
     waits-for (Lines.Call d) e c q = call (get_or marks d fresh).visit refl q
       where
-        same : {a b : ℕ} → ◌≡◌ {A = Looked} (Wait a) (Wait b) → a ≡ b
+        same : {a b : ℕ} → ◌≡◌ {A = Looked} (Err (Wait a)) (Err (Wait b)) → a ≡ b
         same e = cc
 
         calls-it : (v : Visit) → (get_or marks d fresh).visit ≡ v → NotDone v → c ≡ d → Member c (callees whole) × NotDone (get_or marks c fresh).visit
@@ -202,73 +204,67 @@ module _ (w : List ℕ) (tables : Tables w) (marks : List Reckoned) (sound : Sou
             )
 
         call :
-            (v : Visit) → (get_or marks d fresh).visit ≡ v → Wait c ≡ looked_call v (get_or marks d fresh).frames d sum frames →
+            (v : Visit) → (get_or marks d fresh).visit ≡ v → Err (Wait c) ≡ looked_call v (get_or marks d fresh).frames d sum frames →
             Member c (callees whole) × NotDone (get_or marks c fresh).visit
         call NotVisited g q = calls-it NotVisited g tt (same q)
         call OnRoute g q = calls-it OnRoute g tt (same q)
-        call (Done b) g q = absurd (let z : ◌≡◌ {A = ℕ} 0 1 = cc in omega arith)
-    waits-for Lines.Loop e c q = absurd (let z : ◌≡◌ {A = ℕ} 0 1 = cc in omega arith)
-    waits-for Lines.End e c q = absurd (let z : ◌≡◌ {A = ℕ} 0 1 = cc in omega arith)
+        call (Done b) g q = absurd cc
+    waits-for Lines.Loop e c q = absurd cc
+    waits-for Lines.End e c q = absurd cc
 
-    has-loop : (v : Line) → line_in w i ≡ v → Loop ≡ looked marks v sum frames → HasLoop whole
+    has-loop : (v : Line) → line_in w i ≡ v → Err Loop ≡ looked marks v sum frames → HasLoop whole
     unfolding looked looked_call
-    has-loop Lines.Plain e q = absurd (let z : ◌≡◌ {A = ℕ} 0 1 = cc in omega arith)
+    has-loop Lines.Plain e q = absurd cc
     has-loop (Lines.Call c) e q = absurd (no_call (get_or marks c fresh).visit q)
       where
-        no_call : (v : Visit) → Loop ≡ looked_call v (get_or marks c fresh).frames c sum frames → ⊥
-        no_call NotVisited q = let z : ◌≡◌ {A = ℕ} 0 1 = cc in omega arith
-        no_call OnRoute q = let z : ◌≡◌ {A = ℕ} 0 1 = cc in omega arith
-        no_call (Done b) q = let z : ◌≡◌ {A = ℕ} 0 1 = cc in omega arith
+        no_call : (v : Visit) → Err Loop ≡ looked_call v (get_or marks c fresh).frames c sum frames → ⊥
+        no_call NotVisited q = cc
+        no_call OnRoute q = cc
+        no_call (Done b) q = cc
     has-loop Lines.Loop e q =
         let (_, _, t) = stmt_says Lines.Loop e in
         (row_numbered P i, part.inside (row_numbered P i) (block-first P i), subst T (sym t) tt)
-    has-loop Lines.End e q = absurd (let z : ◌≡◌ {A = ℕ} 0 1 = cc in omega arith)
+    has-loop Lines.End e q = absurd cc
 
     counted-out :
-        (v : Line) → line_in w i ≡ v → End ≡ looked marks v sum frames → (o : Open) → o.sum ≡ cap (sum + 1) → o.frames ≡ frames →
+        (v : Line) → line_in w i ≡ v → Err End ≡ looked marks v sum frames → (o : Open) → o.sum ≡ cap (sum + 1) → o.frames ≡ frames →
         Ended bs whole o
     unfolding looked looked_call
-    counted-out Lines.Plain e q o s f = absurd (let z : ◌≡◌ {A = ℕ} 0 1 = cc in omega arith)
+    counted-out Lines.Plain e q o s f = absurd cc
     counted-out (Lines.Call c) e q o s f = absurd (no_call (get_or marks c fresh).visit q)
       where
-        no_call : (v : Visit) → End ≡ looked_call v (get_or marks c fresh).frames c sum frames → ⊥
-        no_call NotVisited q = let z : ◌≡◌ {A = ℕ} 0 1 = cc in omega arith
-        no_call OnRoute q = let z : ◌≡◌ {A = ℕ} 0 1 = cc in omega arith
-        no_call (Done b) q = let z : ◌≡◌ {A = ℕ} 0 1 = cc in omega arith
-    counted-out Lines.Loop e q o s f = absurd (let z : ◌≡◌ {A = ℕ} 0 1 = cc in omega arith)
+        no_call : (v : Visit) → Err End ≡ looked_call v (get_or marks c fresh).frames c sum frames → ⊥
+        no_call NotVisited q = cc
+        no_call OnRoute q = cc
+        no_call (Done b) q = cc
+    counted-out Lines.Loop e q o s f = absurd cc
     counted-out Lines.End e q o s f =
         let (a, b, c) = stmt_says Lines.End e in
         last_line bs whole (row_numbered P i) o sum b c s
         (rw f (subst (λ b. Part bs whole b sum frames) (block-ends P i a) part))
 
   -- only an `end` stops the counting for good
-  row-follows : (v : Line) → line_in w i ≡ v → (s f : ℕ) → On s f ≡ looked marks v sum frames → suc i < row_count w
+  row-follows : (v : Line) → line_in w i ≡ v → (s f : ℕ) → Ok (s, f) ≡ looked marks v sum frames → suc i < row_count w
   unfolding looked looked_call
   row-follows v e s f q = row-after w tables i l (λ x. not_end v (sym e ∙ x) q)
     where
-      not_end : (v : Line) → v ≡ Lines.End → On s f ≡ looked marks v sum frames → ⊥
-      not_end v x q = go (subst (λ v. On s f ≡ looked marks v sum frames) x q)
+      not_end : (v : Line) → v ≡ Lines.End → Ok (s, f) ≡ looked marks v sum frames → ⊥
+      not_end v x q = go (subst (λ v. Ok (s, f) ≡ looked marks v sum frames) x q)
         where
-          go : On s f ≡ looked marks Lines.End sum frames → ⊥
-          go q = let z : ◌≡◌ {A = ℕ} 0 1 = cc in omega arith
+          go : Ok (s, f) ≡ looked marks Lines.End sum frames → ⊥
+          go q = cc
 
-  sum_fits : (v : Line) (s f : ℕ) → On s f ≡ looked marks v sum frames → s ≤ suc most_bound
+  sum_fits : (v : Line) (s f : ℕ) → Ok (s, f) ≡ looked marks v sum frames → s ≤ suc most_bound
   unfolding looked looked_call
-  sum_fits Lines.Plain s f q = omega (arith, first q)
-    where
-      first : On s f ≡ On (cap (sum + 1)) frames → s ≡ cap (sum + 1)
-      first e = cc
+  sum_fits Lines.Plain s f q = omega (arith, (on-counts q).0)
   sum_fits (Lines.Call c) s f q = call (get_or marks c fresh).visit q
     where
-      first : {k n : ℕ} → ◌≡◌ {A = Looked} (On s f) (On k n) → s ≡ k
-      first e = cc
-
-      call : (v : Visit) → On s f ≡ looked_call v (get_or marks c fresh).frames c sum frames → s ≤ suc most_bound
-      call (Done b) q = omega (arith, first q)
-      call NotVisited q = absurd (let z : ◌≡◌ {A = ℕ} 0 1 = cc in omega arith)
-      call OnRoute q = absurd (let z : ◌≡◌ {A = ℕ} 0 1 = cc in omega arith)
-  sum_fits Lines.Loop s f q = absurd (let z : ◌≡◌ {A = ℕ} 0 1 = cc in omega arith)
-  sum_fits Lines.End s f q = absurd (let z : ◌≡◌ {A = ℕ} 0 1 = cc in omega arith)
+      call : (v : Visit) → Ok (s, f) ≡ looked_call v (get_or marks c fresh).frames c sum frames → s ≤ suc most_bound
+      call (Done b) q = omega (arith, (on-counts q).0)
+      call NotVisited q = absurd cc
+      call OnRoute q = absurd cc
+  sum_fits Lines.Loop s f q = absurd cc
+  sum_fits Lines.End s f q = absurd cc
 
 -- SCANNING
 -- o, counted on up to the row
@@ -286,9 +282,9 @@ module _ (w : List ℕ) (tables : Tables w) (marks : List Reckoned) (sound : Sou
   may-look = (call_fits w tables row I.within v e, sound-counts w marks sum sound I.fits)
 
   module _ (k : Looked) (h : k ≡ looked marks v sum frames) where
-    pub scan-on : (s f n : ℕ) → k ≡ On s f → n ≡ row + 1 → Scanning w o n s f
+    pub scan-on : (s f n : ℕ) → k ≡ Ok (s, f) → n ≡ row + 1 → Scanning w o n s f
     scan-on s f n q r =
-        let g : On s f ≡ looked marks v sum frames = sym q ∙ h in
+        let g : Ok (s, f) ≡ looked marks v sum frames = sym q ∙ h in
         rw (r, add-one row)
         (record {
           within = row-follows w tables marks sound row I.within sum frames v (sym e) s f g;
@@ -296,10 +292,9 @@ module _ (w : List ℕ) (tables : Tables w) (marks : List Reckoned) (sound : Sou
           part = λ whole p. counted-on w tables marks sound row I.within sum frames whole (I.part whole p) v (sym e) s f g;
         })
 
-    pub scan-waits :
-        (c : ℕ) → k ≡ Wait c →
-        Scans w marks o (stopped_at o row sum frames (Halts.Wait c))
-    scan-waits c q =
+    pub scan-stops : (f : Halt) → k ≡ Err f → Scans w marks o (stopped_at o row sum frames f)
+    unfolding stopped_at
+    scan-stops (Wait c) q =
         record {
           method = refl;
           stops =
@@ -307,22 +302,14 @@ module _ (w : List ℕ) (tables : Tables w) (marks : List Reckoned) (sound : Sou
               let (m, n) = waits-for w tables marks sound row I.within sum frames whole (I.part whole p) v (sym e) c (sym q ∙ h) in
               record { part = (I.part whole p, I.within); called = m; not_done = n };
         }
-
-    pub scan-loops :
-        k ≡ Loop →
-        Scans w marks o (stopped_at o row sum frames Halts.Loop)
-    scan-loops q =
+    scan-stops Loop q =
         record {
           method = refl;
           stops = λ whole p. has-loop w tables marks sound row I.within sum frames whole (I.part whole p) v (sym e) (sym q ∙ h);
         }
-
-    pub scan-ends :
-        (s : ℕ) → k ≡ End → s ≡ cap (sum + 1) →
-        Scans w marks o (stopped_at o row s frames Halts.End)
-    scan-ends s q r =
+    scan-stops End q =
         record {
           method = refl;
           stops =
-              λ whole p. counted-out w tables marks sound row I.within sum frames whole (I.part whole p) v (sym e) (sym q ∙ h) _ r refl;
+              λ whole p. counted-out w tables marks sound row I.within sum frames whole (I.part whole p) v (sym e) (sym q ∙ h) _ refl refl;
         }

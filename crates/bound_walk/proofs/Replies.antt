@@ -1,11 +1,12 @@
 -- What the walk over all methods says of the definition: a line is refused, or main's bound and frames.
 use mathlib.Core.Path.{◌≡◌, refl, sym, subst}
-use mathlib.Core.Bool.{Bool, true, false}
+use mathlib.Core.Bool.{true, false}
 use mathlib.Core.List.{List}
 use mathlib.Core.Logic.{⊎_elim}
 use mathlib.Core.Option.{Option, none, some}
 use Prim.Native.Nat.{ℕ, suc, ◌+◌, ◌≤◌, ◌<◌}
 use native.Mathlib.Omega.{arith}
+use Rattle.std.specs.Prelude.{Ok, Err}
 use lib.Dec.{leb, ltb, leb→le, le→leb}
 use lib.ListN.{get_or}
 use Rattle.rules.specs.Limits.{most_bound, most_methods}
@@ -26,27 +27,21 @@ use Rattle.bound_walk.specs.declared.Visit.TheVariants.{NotVisited, OnRoute, Don
 use Rattle.bound_walk.specs.declared.Reckoned.{Reckoned}
 use Rattle.bound_walk.specs.declared.Halt.TheVariants as Halts
 use Rattle.bound_walk.specs.declared.Scanned.{Scanned}
-use Rattle.bound_walk.specs.declared.Answer.TheVariants as Answers
+use Rattle.bound_walk.specs.declared.Refusal.TheVariants.{Unbounded, Passed}
 use Rattle.bound_walk.specs.Counting.{cap, fresh}
-use Rattle.bound_walk.specs.Walk.{Settled, Right, SoundIn, Ended, Waits, NotDone, Stops, Scans, is_new, NoBound, Reckons, reckoned_by, reckoned}
+use Rattle.bound_walk.specs.Walk.{Settled, Right, SoundIn, Ended, Waits, NotDone, Stops, Scans, is_new, NoBound, AllReckoned, reckoned_by, reckoned}
 use Rattle.bound_walk.proofs.Counted.{settled-itself, settled-loopless, whole_part}
 
-pub no-bound-answer : (w : List ℕ) → NoBound w → Answers.Unbounded ≡ reckoned (program_in w)
+pub no-bound-answer : (w : List ℕ) → NoBound w → Err Unbounded ≡ reckoned (program_in w)
 unfolding reckoned reckoned_by
 no-bound-answer w n = go (first_repeating (program_in w)) refl
   where
-    go : (o : Option Row) → first_repeating (program_in w) ≡ o → Answers.Unbounded ≡ reckoned_by (program_in w) o
+    go : (o : Option Row) → first_repeating (program_in w) ≡ o → Err Unbounded ≡ reckoned_by (program_in w) o
     go none e = absurd (n e)
     go (some r) e = refl
 
-pub reckons-stop : (w : List ℕ) (b : Bool) (marks : List Reckoned) → b ≡ true → Reckons w b marks → NoBound w
-reckons-stop w b marks e r = subst (λ b. Reckons w b marks) e r
-
-pub reckons-all : (w : List ℕ) (b : Bool) (marks : List Reckoned) → b ≡ false → Reckons w b marks → Reckons w false marks
-reckons-all w b marks e r = subst (λ b. Reckons w b marks) e r
-
 -- every method is reckoned
-module _ (w : List ℕ) (tables : Tables w) (marks : List Reckoned) (R : Reckons w false marks) where
+module _ (w : List ℕ) (tables : Tables w) (marks : List Reckoned) (R : AllReckoned w marks) where
   abbrev bs : List Block
   bs = blocks_in w
 
@@ -90,13 +85,13 @@ module _ (w : List ℕ) (tables : Tables w) (marks : List Reckoned) (R : Reckons
     not-waiting OnRoute z i d = i refl
     not-waiting (Done b) z i d = d
 
-    pub main-waits : (c : ℕ) → s.found ≡ Halts.Wait c → Answers.Unbounded ≡ reckoned P
+    pub main-waits : (c : ℕ) → s.found ≡ Halts.Wait c → Err Unbounded ≡ reckoned P
     main-waits c f =
         let H : Waits w marks body s.block c = subst (λ f. Stops w marks body s.block f) f stops in
         absurd
         (not-waiting (get_or marks c fresh).visit (R.1 c (callees-there w tables (main_first w) c H.called)) (R.0.idle c) H.not_done)
 
-    pub main-loops : s.found ≡ Halts.Loop → Answers.Unbounded ≡ reckoned P
+    pub main-loops : s.found ≡ Halts.Loop → Err Unbounded ≡ reckoned P
     unfolding program_in
     main-loops f =
         let (r, i, t) = subst (λ f. Stops w marks body s.block f) f stops in
@@ -122,14 +117,14 @@ module _ (w : List ℕ) (tables : Tables w) (marks : List Reckoned) (R : Reckons
       frames_small = omega (arith, ended.frames, frames-most bs body, blocks-count w, tables.methods)
 
       pub bounded-answer :
-          s.block.sum ≤ most_bound → (k : ℕ) → k ≡ s.block.frames + 1 → Answers.Bounded s.block.sum k ≡ reckoned P
+          s.block.sum ≤ most_bound → (k : ℕ) → k ≡ s.block.frames + 1 → Ok (record { steps = s.block.sum; frames = k }) ≡ reckoned P
       unfolding reckoned reckoned_by
       bounded-answer l k q =
           let is : s.block.sum ≡ main_bound P = omega (arith, main-sum, l) in
           let fits : leb (main_bound P) most_bound ≡ true = T_true (leb (main_bound P) most_bound) (le→leb (main_bound P) most_bound (omega (arith, is, l))) in
           rw (none-repeats, fits, is, q, main-frames) refl
 
-      pub passed-answer : most_bound < s.block.sum → Answers.Passed ≡ reckoned P
+      pub passed-answer : most_bound < s.block.sum → Err Passed ≡ reckoned P
       unfolding reckoned reckoned_by
       passed-answer l =
           let fits : leb (main_bound P) most_bound ≡ false =

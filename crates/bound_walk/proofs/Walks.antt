@@ -1,10 +1,10 @@
 -- Laws of the route: a block that is left, a block that is entered, a ring; and of a walk from one method.
 use mathlib.Core.Path.{◌≡◌, refl, sym, ap, ◌∙◌, subst}
-use mathlib.Core.Bool.{Bool, true, false}
 use mathlib.Core.List.{List, [], ◌∷◌}
 use mathlib.Core.Logic.{◌⊎◌, inl, inr, ⊎_elim}
 use Prim.Native.Nat.{ℕ, zero, suc, ◌+◌, ◌-◌, ◌≤◌, ◌<◌}
 use native.Mathlib.Omega.{arith}
+use Rattle.std.specs.Prelude.{Option, Some}
 use lib.ListN.{length, get_or, set, length-set, replicate}
 use lib.Seq.{get_or-set_same, get_or-set_other}
 use Rattle.rules.specs.Base.{Member}
@@ -27,7 +27,7 @@ use Rattle.bound_walk.specs.declared.Halt.TheVariants as Halts
 use Rattle.bound_walk.specs.declared.Scanned.{Scanned}
 use Rattle.bound_walk.specs.declared.Route.{Route}
 use Rattle.bound_walk.specs.Counting.{cap, fresh}
-use Rattle.bound_walk.specs.Walk.{Settled, settled, Right, SoundIn, Part, PartAt, Ended, Waits, NotDone, HasLoop, Stops, Scans, Keeps, no_open, is_new, new_ones, Walking, turns_left, NoBound, Turned, left, into, stopped, waiting, begun, FreshAt, Rested, Settles, Reckons}
+use Rattle.bound_walk.specs.Walk.{Settled, settled, Right, SoundIn, Part, PartAt, Ended, Waits, NotDone, HasLoop, Stops, Scans, Keeps, no_open, is_new, new_ones, Walking, NoBound, Turned, left, into, waiting, begun, FreshAt, Rested, Settles, Reckons}
 use Rattle.bound_walk.proofs.Counted.{settled-clear, whole_part}
 
 -- COUNTING THE METHODS THAT ARE NOT VISITED
@@ -134,7 +134,7 @@ module _ (w : List ℕ) (tables : Tables w) where
           (is-settled, E.sum ∙ ap cap (sym (bound-law bs o.method (settled-clear bs o.method is-settled))), E.frames ∙ sym (frames-law bs o.method (settled-clear bs o.method is-settled))))
 
       done-route : {v : ℕ} → Done v ≡ OnRoute → ⊥
-      done-route e = let z : ◌≡◌ {A = ℕ} 0 1 = cc in omega arith
+      done-route e = cc
 
       done-covered : (n : ℕ) → (get_or done-marks n fresh).visit ≡ OnRoute → (k : ℕ) × (k < top) × ((get_or r.blocks k no_open).method ≡ n)
       done-covered n e =
@@ -148,7 +148,7 @@ module _ (w : List ℕ) (tables : Tables w) where
           below : (k : ℕ) → k < r.depth → (k ≡ top → ⊥) → k < top
           below k l n = omega (arith, l, n, d)
 
-      left-turned : Turned w r (left r top b).unbounded (left r top b)
+      left-turned : Turned w r (Some (left r top b))
       unfolding left
       left-turned = (
         record {
@@ -280,7 +280,7 @@ module _ (w : List ℕ) (tables : Tables w) where
           (k, omega (arith, l, d), same-method k (omega (arith, l, d)) ∙ t))
           (decide_eq n c)
 
-      into-turned : Turned w r (into r top b c (first_row_at w c)).unbounded (into r top b c (first_row_at w c))
+      into-turned : Turned w r (Some (into r top b c (first_row_at w c)))
       unfolding into
       into-turned = (
         record {
@@ -311,8 +311,8 @@ module _ (w : List ℕ) (tables : Tables w) where
     -- what a turn comes to
     waiting_turned :
         (b : Open) → b.method ≡ o.method → (c : ℕ) (v : Visit) → Waits w r.marks whole b c → (get_or r.marks c fresh).visit ≡ v →
-        Turned w r (waiting r top b c (first_row_at w c) v).unbounded (waiting r top b c (first_row_at w c) v)
-    unfolding waiting stopped into
+        Turned w r (waiting r top b c (first_row_at w c) v)
+    unfolding waiting
     waiting_turned b m c NotVisited H e = into-turned b m c H e
     waiting_turned b m c OnRoute H e = ring-found c H.called e
     waiting_turned b m c (Done n) H e = absurd (subst NotDone e H.not_done)
@@ -347,21 +347,19 @@ module _ (w : List ℕ) (tables : Tables w) where
     may-wait c f =
         (omega (arith, W.room, h), omega (arith, call_known (get_or r.blocks top no_open).method c (waits c f).called, tables.methods))
 
-    pub turn-leaves : (r' : Route) → s.found ≡ Halts.End → r' ≡ left r top s.block → Turned w r r'.unbounded r'
+    pub turn-leaves : (r' : Route) → s.found ≡ Halts.End → r' ≡ left r top s.block → Turned w r (Some r')
     turn-leaves r' f q =
-        subst (λ (r' : Route). Turned w r r'.unbounded r') (sym q) (left-turned r W top is-top s.block S.method (ends f))
+        subst (λ (r' : Route). Turned w r (Some r')) (sym q) (left-turned r W top is-top s.block S.method (ends f))
 
-    pub turn-stops : (r' : Route) → s.found ≡ Halts.Loop → r' ≡ stopped r → Turned w r r'.unbounded r'
-    unfolding stopped
-    turn-stops r' f q =
-        subst (λ (r' : Route). Turned w r r'.unbounded r') (sym q)
-        (loop-unbounded w (get_or r.blocks top no_open).method (subst (λ f. Stops w r.marks top-block s.block f) f stops))
+    pub turn-stops : s.found ≡ Halts.Loop → NoBound w
+    turn-stops f =
+        loop-unbounded w (get_or r.blocks top no_open).method (subst (λ f. Stops w r.marks top-block s.block f) f stops)
 
     pub turn-waits :
-        (r' : Route) (c : ℕ) → s.found ≡ Halts.Wait c → r' ≡ waiting r top s.block c (first_row_at w c) (get_or r.marks c fresh).visit →
-        Turned w r r'.unbounded r'
+        (r' : Option Route) (c : ℕ) → s.found ≡ Halts.Wait c → r' ≡ waiting r top s.block c (first_row_at w c) (get_or r.marks c fresh).visit →
+        Turned w r r'
     turn-waits r' c f q =
-        subst (λ (r' : Route). Turned w r r'.unbounded r') (sym q)
+        subst (Turned w r) (sym q)
         (waiting_turned r W top is-top s.block S.method c (get_or r.marks c fresh).visit (waits c f) refl)
 
   pub may-scan :
@@ -413,10 +411,6 @@ module _ (w : List ℕ) (tables : Tables w) where
           blocks_length = refl;
         }
 
-    pub begun-on : (begun marks start (first_row_at w start)).unbounded ≡ false
-    unfolding begun
-    begun-on = refl
-
     pub begun-keeps : Keeps marks (begun marks start (first_row_at w start)).marks
     unfolding begun
     begun-keeps n z =
@@ -433,23 +427,9 @@ module _ (w : List ℕ) (tables : Tables w) where
   walk_ends r W e =
       record { sound = W.sound; idle = λ n q. let (k, l, _) = W.covered n q in omega (arith, l, e); size = W.marks_length }
 
--- BY THE TEST
-module _ (w : List ℕ) (r r' : Route) (b : Bool) where
-  pub turned-stop :
-      (marks : List Reckoned) (start : ℕ) (marks' : List Reckoned) → b ≡ true → Turned w r b r' → Settles w marks start b marks'
-  turned-stop marks start marks' e t = rw e (subst (λ b. Turned w r b r') e t)
-
-  pub turned_on : b ≡ false → Turned w r b r' → Walking w r' × (turns_left r' < turns_left r) × Keeps r.marks r'.marks
-  turned_on e t = subst (λ b. Turned w r b r') e t
-
-pub settles-at :
-    (w : List ℕ) (marks : List Reckoned) (start : ℕ) (b : Bool) (marks' : List Reckoned) → b ≡ false → Rested w marks' →
-    Keeps marks marks' → is_new (get_or marks' start fresh).visit ≡ 0 → Settles w marks start b marks'
-settles-at w marks start b marks' e R k z = rw e (R, k, z)
-
 -- ALL METHODS
 pub already :
-    (w : List ℕ) (marks : List Reckoned) (n : ℕ) → Rested w marks → is_new (get_or marks n fresh).visit ≡ 0 → Settles w marks n false marks
+    (w : List ℕ) (marks : List Reckoned) (n : ℕ) → Rested w marks → is_new (get_or marks n fresh).visit ≡ 0 → Settles w marks n (Some marks)
 already w marks n R z = (R, λ i z. z, z)
 
 fresh-replicate : (k n : ℕ) → get_or (replicate k fresh) n fresh ≡ fresh
@@ -466,27 +446,20 @@ rested-first w =
     }
   where
     new-route : NotVisited ≡ OnRoute → ⊥
-    new-route e = let z : ◌≡◌ {A = ℕ} 0 1 = cc in omega arith
+    new-route e = cc
 
 abbrev pub AllBelow : ℕ → List Reckoned → Type 0
 AllBelow n marks = (i : ℕ) → i < n → is_new (get_or marks i fresh).visit ≡ 0
 
-pub settles-stop :
-    (w : List ℕ) (marks : List Reckoned) (n : ℕ) (b : Bool) (marks' : List Reckoned) → b ≡ true → Settles w marks n b marks' →
-    Reckons w b marks'
-settles-stop w marks n b marks' e s = rw e (subst (λ b. Settles w marks n b marks') e s)
-
 pub settles_on :
-    (w : List ℕ) (marks : List Reckoned) (n : ℕ) (b : Bool) (marks' : List Reckoned) → b ≡ false → Settles w marks n b marks' →
+    (w : List ℕ) (marks : List Reckoned) (n : ℕ) (marks' : List Reckoned) → Settles w marks n (Some marks') →
     AllBelow n marks → Rested w marks' × AllBelow (n + 1) marks'
-settles_on w marks n b marks' e s a =
-    let (R, k, z) : Settles w marks n false marks' = subst (λ b. Settles w marks n b marks') e s in
+settles_on w marks n marks' (R, k, z) a =
     (R, λ i l. ⊎_elim (λ q. subst (λ i. is_new (get_or marks' i fresh).visit ≡ 0) (sym q) z) (λ q. k i (a i (less i l q))) (decide_eq i n))
   where
     less : (i : ℕ) → i < n + 1 → (i ≡ n → ⊥) → i < n
     less i l q = omega (arith, l, q)
 
 pub reckons-at :
-    (w : List ℕ) (b : Bool) (marks : List Reckoned) (n : ℕ) → b ≡ false → method_count w ≤ n → Rested w marks → AllBelow n marks →
-    Reckons w b marks
-reckons-at w b marks n e l R a = rw e (R, λ i h. a i (omega (arith, h, l)))
+    (w : List ℕ) (marks : List Reckoned) (n : ℕ) → method_count w ≤ n → Rested w marks → AllBelow n marks → Reckons w (Some marks)
+reckons-at w marks n l R a = (R, λ i h. a i (omega (arith, h, l)))

@@ -1,5 +1,6 @@
 -- What the walk knows and keeps: methods that are reckoned, blocks that are counted in part, and the route.
-use Rattle.std.specs.Prelude.{◌≡◌, Bool, true, false, cond, List, [], ◌∷◌, map, ℕ, suc, ◌+◌, ◌*◌, ◌≤◌, ◌<◌, max, T, leb, length, get_or, set, replicate}
+use Rattle.std.specs.Prelude as Std
+use Rattle.std.specs.Prelude.{◌≡◌, cond, Result, Ok, Err, List, [], ◌∷◌, map, ℕ, suc, ◌+◌, ◌*◌, ◌≤◌, ◌<◌, max, T, leb, length, get_or, set, replicate}
 use Rattle.std.proofs.Math.Option.{Option, none, some}
 use Rattle.rules.specs.Base.{Member}
 use Rattle.rules.specs.Limits.{most_bound, most_methods}
@@ -16,8 +17,9 @@ use Rattle.bound_walk.specs.declared.Halt.{Halt}
 use Rattle.bound_walk.specs.declared.Halt.TheVariants as Halts
 use Rattle.bound_walk.specs.declared.Scanned.{Scanned}
 use Rattle.bound_walk.specs.declared.Route.{Route}
-use Rattle.bound_walk.specs.declared.Answer.{Answer}
-use Rattle.bound_walk.specs.declared.Answer.TheVariants as Answers
+use Rattle.bound_walk.specs.declared.Bound.{Bound}
+use Rattle.bound_walk.specs.declared.Refusal.{Refusal}
+use Rattle.bound_walk.specs.declared.Refusal.TheVariants.{Unbounded, Passed}
 use Rattle.bound_walk.specs.Counting.{cap, fresh}
 
 -- METHODS
@@ -127,7 +129,6 @@ left r top b =
       marks = set r.marks b.method (record { visit = Done b.sum; frames = b.frames + 1 });
       blocks = r.blocks;
       depth = top;
-      unbounded = false;
     }
 
 unfoldable pub into : Route → ℕ → Open → ℕ → ℕ → Route
@@ -136,25 +137,22 @@ into r top b c first =
       marks = set r.marks c (record { visit = OnRoute; frames = 0 });
       blocks = set (set r.blocks top b) (top + 1) (record { method = c; row = first; sum = 0; frames = 0 });
       depth = top + 2;
-      unbounded = false;
     }
 
-unfoldable pub stopped : Route → Route
-stopped r = record { marks = r.marks; blocks = r.blocks; depth = r.depth; unbounded = true }
-
-unfoldable pub waiting : Route → ℕ → Open → ℕ → ℕ → Visit → Route
-waiting r top b c first NotVisited = into r top b c first
-waiting r top b c first OnRoute = stopped r
-waiting r top b c first (Done n) = into r top b c first
+-- no bound, where the method is on the route
+unfoldable pub waiting : Route → ℕ → Open → ℕ → ℕ → Visit → Std.Option Route
+waiting r top b c first NotVisited = Std.Some (into r top b c first)
+waiting r top b c first OnRoute = Std.None
+waiting r top b c first (Done n) = Std.Some (into r top b c first)
 
 -- a method that was come to stays so
 abbrev pub Keeps : List Reckoned → List Reckoned → Type 0
 Keeps marks marks' = (n : ℕ) → is_new (get_or marks n fresh).visit ≡ 0 → is_new (get_or marks' n fresh).visit ≡ 0
 
 -- one turn: there is no bound, or the route goes on with less to do
-abbrev pub Turned : List ℕ → Route → Bool → Route → Type 0
-Turned w r true r' = NoBound w
-Turned w r false r' = Walking w r' × (turns_left r' < turns_left r) × Keeps r.marks r'.marks
+abbrev pub Turned : List ℕ → Route → Std.Option Route → Type 0
+Turned w r Std.None = NoBound w
+Turned w r (Std.Some r') = Walking w r' × (turns_left r' < turns_left r) × Keeps r.marks r'.marks
 
 -- A WALK FROM ONE METHOD
 
@@ -164,7 +162,6 @@ begun marks start first =
       marks = set marks start (record { visit = OnRoute; frames = 0 });
       blocks = set (replicate (suc most_methods) no_open) 0 (record { method = start; row = first; sum = 0; frames = 0 });
       depth = 1;
-      unbounded = false;
     }
 
 abbrev pub FreshAt : List Reckoned → ℕ → Type 0
@@ -176,23 +173,24 @@ pub record Rested (w : List ℕ) (marks : List Reckoned) : Type 0 where
   pub idle : (n : ℕ) → (get_or marks n fresh).visit ≡ OnRoute → ⊥
   pub size : length marks ≡ most_methods
 
-abbrev pub Settles : List ℕ → List Reckoned → ℕ → Bool → List Reckoned → Type 0
-Settles w marks start true marks' = NoBound w
-Settles w marks start false marks' = Rested w marks' × Keeps marks marks' × (is_new (get_or marks' start fresh).visit ≡ 0)
+abbrev pub Settles : List ℕ → List Reckoned → ℕ → Std.Option (List Reckoned) → Type 0
+Settles w marks start Std.None = NoBound w
+Settles w marks start (Std.Some marks') = Rested w marks' × Keeps marks marks' × (is_new (get_or marks' start fresh).visit ≡ 0)
 
 -- every method is reckoned
-abbrev pub Reckons : List ℕ → Bool → List Reckoned → Type 0
-Reckons w true marks = NoBound w
-Reckons w false marks = Rested w marks × ((n : ℕ) → n < method_count w → is_new (get_or marks n fresh).visit ≡ 0)
+abbrev pub Reckons : List ℕ → Std.Option (List Reckoned) → Type 0
+Reckons w Std.None = NoBound w
+Reckons w (Std.Some marks) = Rested w marks × ((n : ℕ) → n < method_count w → is_new (get_or marks n fresh).visit ≡ 0)
 
 abbrev pub AllReckoned : List ℕ → List Reckoned → Type 0
-AllReckoned w marks = Reckons w false marks
+AllReckoned w marks = Reckons w (Std.Some marks)
 
 -- THE ANSWER
 
-unfoldable pub reckoned_by : Program → Option Row → Answer
-reckoned_by P (some r) = Answers.Unbounded
-reckoned_by P none = cond (leb (main_bound P) most_bound) (Answers.Bounded (main_bound P) (main_frames P)) Answers.Passed
+unfoldable pub reckoned_by : Program → Option Row → Result Bound Refusal
+reckoned_by P (some r) = Err Unbounded
+reckoned_by P none =
+    cond (leb (main_bound P) most_bound) (Ok (record { steps = main_bound P; frames = main_frames P })) (Err Passed)
 
-unfoldable pub reckoned : Program → Answer
+unfoldable pub reckoned : Program → Result Bound Refusal
 reckoned P = reckoned_by P (first_repeating P)

@@ -1,12 +1,12 @@
 // The rows of a block counted, up to its `end` or to a row that has to wait.
-ghost use Rattle.std.specs.Prelude.{◌≡◌, suc, ◌≤◌, ◌<◌, max};
+ghost use Rattle.std.specs.Prelude.{◌≡◌, suc, ◌≤◌, ◌<◌};
 ghost use Rattle.rules.specs.Limits.{most_bound};
 ghost use Rattle.tables.specs.Decode.{row_count};
 ghost use Rattle.tables.specs.Tables.{Tables};
 ghost use Rattle.bound_walk.specs.Counting.{cap, looked_call, looked, stopped_at, BoundFits, Counts, CallFits};
 ghost use Rattle.bound_walk.specs.Walk.{Scans, SoundIn};
 
-use crate::{Halt, Looked, Open, Reckoned, Scanned, Visit};
+use crate::{Halt, Marks, Open, Reckoned, Scanned, Visit};
 use bound_rows::Line;
 use rules::Machine;
 
@@ -14,88 +14,72 @@ use rules::Machine;
 fn capped(n: u32) -> u32
     ensures { result ≡ cap n }
 {
-    if n <= Machine::BOUND as u32 {
-        return n;
-    }
-    Machine::BOUND as u32 + 1
+    n.min(Machine::BOUND as u32 + 1)
 }
 
-fn larger(a: u32, b: u32) -> u32
-    ensures { result ≡ max a b }
-{
-    if a < b {
-        return b;
-    }
-    a
-}
-
-// A call of the method c, of which m is known.
-fn look_call(m: Reckoned, c: usize, sum: u32, frames: u32) -> Looked
+// A call of the method c, of which m is known: the sum and the frames with it.
+fn look_call(m: Reckoned, c: usize, sum: u32, frames: u32) -> Result<(u32, u32), Halt>
     requires { (sum ≤ suc most_bound) × BoundFits m.visit }
     ensures { result ≡ looked_call m.visit m.frames c sum frames }
 {
-    let v = m.visit;
-    match v {
-        Visit::Done(b) => Looked::On(capped(sum + 1 + b), larger(frames, m.frames)),
-        Visit::NotVisited => Looked::Wait(c),
-        Visit::OnRoute => Looked::Wait(c),
+    match m.visit {
+        Visit::Done(b) => Ok((capped(sum + 1 + b), frames.max(m.frames))),
+        Visit::NotVisited | Visit::OnRoute => Err(Halt::Wait(c)),
     }
 }
 
-fn look(marks: [Reckoned; Machine::METHODS], line: Line, sum: u32, frames: u32) -> Looked
+// The sum and the frames with this row, or why the counting stops at it.
+fn look(marks: Marks, line: Line, sum: u32, frames: u32) -> Result<(u32, u32), Halt>
     requires { CallFits line × Counts marks sum }
     ensures { result ≡ looked marks line sum frames }
 {
     match line {
-        Line::Plain => Looked::On(capped(sum + 1), frames),
-        Line::Call(c) => {
-            let m = marks[c];
-            look_call(m, c, sum, frames)
-        }
-        Line::Loop => Looked::Loop,
-        Line::End => Looked::End,
+        Line::Plain => Ok((capped(sum + 1), frames)),
+        Line::Call(c) => look_call(marks[c], c, sum, frames),
+        Line::Loop => Err(Halt::Loop),
+        Line::End => Err(Halt::End),
     }
 }
 
-// The counting of the block o stops at a row.
+// The counting of the block o stops at a row. The `end` of a block is counted too.
 fn stop_at(o: Open, row: usize, sum: u32, frames: u32, found: Halt) -> Scanned
+    requires { sum ≤ suc most_bound }
     ensures { result ≡ stopped_at o row sum frames found }
 {
+    let sum = match found {
+        Halt::End => capped(sum + 1),
+        Halt::Wait(_) | Halt::Loop => sum,
+    };
     Scanned {
         block: Open {
-            method: o.method,
-            row: row,
-            sum: sum,
-            frames: frames,
+            row,
+            sum,
+            frames,
+            ..o
         },
-        found: found,
+        found,
     }
 }
 
 // On from a row of a block.
-pub fn scan(work: &[u8], marks: [Reckoned; Machine::METHODS], o: Open) -> Scanned
+pub fn scan(work: &[u8], marks: Marks, o: Open) -> Scanned
     requires { Tables work.now × (SoundIn work.now marks × ((o.row < row_count work.now) × (o.sum ≤ suc most_bound))) }
     ensures { Scans work.now marks o result }
 {
     let mut row = o.row;
     let mut sum = o.sum;
     let mut frames = o.frames;
+    // A loop: which row is the block's `end` is known only there.
     loop {
         let line = bound_rows::line_at(work, row);
         match look(marks, line, sum, frames) {
-            Looked::On(s, f) => {
+            Ok((s, f)) => {
                 sum = s;
                 frames = f;
                 row += 1;
             }
-            Looked::Wait(c) => {
-                return stop_at(o, row, sum, frames, Halt::Wait(c));
-            }
-            Looked::Loop => {
-                return stop_at(o, row, sum, frames, Halt::Loop);
-            }
-            Looked::End => {
-                return stop_at(o, row, capped(sum + 1), frames, Halt::End);
+            Err(found) => {
+                return stop_at(o, row, sum, frames, found);
             }
         }
     }

@@ -37,16 +37,7 @@ pub struct Open {
     pub frames: u32,
 }
 
-// What a row comes to: it is counted, it calls a method that is not done, it is a loop, or the block's `end`.
-#[derive(Clone, Copy)]
-pub enum Looked {
-    On(u32, u32),
-    Wait(usize),
-    Loop,
-    End,
-}
-
-// Where the counting of a block stops.
+// Where the counting of a block stops: at a call of a method that is not done, at a loop, or at the block's `end`.
 #[derive(Clone, Copy)]
 pub enum Halt {
     Wait(usize),
@@ -60,134 +51,103 @@ pub struct Scanned {
     pub found: Halt,
 }
 
-// What is known of each method, and the blocks of the present route, the outermost first; or that there is no bound.
+// What is known of each method.
+pub type Marks = [Reckoned; Machine::METHODS];
+
+// And the blocks of the present route, the outermost first: a buffer and how many there are, since nothing is on a heap.
 #[derive(Clone, Copy)]
 pub struct Route {
-    pub marks: [Reckoned; Machine::METHODS],
+    pub marks: Marks,
     pub blocks: [Open; Machine::METHODS + 1],
     pub depth: usize,
-    pub unbounded: bool,
 }
 
+// Main's bound and the most frames on a route of calls.
 #[derive(Clone, Copy)]
-pub struct Known {
-    pub marks: [Reckoned; Machine::METHODS],
-    pub unbounded: bool,
+pub struct Bound {
+    pub steps: u32,
+    pub frames: u32,
 }
 
+// Why there is none: a line leaves no bound, or it is passed.
 #[derive(Clone, Copy)]
-pub enum Answer {
-    Bounded(u32, u32),
+pub enum Refusal {
     Unbounded,
     Passed,
 }
 
-// Reckons a method and all that it reaches, or finds that there is no bound.
-fn settle(work: &[u8], marks: [Reckoned; Machine::METHODS], start: usize) -> Route
+// What is known once a method and all that it reaches are reckoned, or that there is no bound.
+fn settle(work: &[u8], marks: Marks, start: usize) -> Option<Marks>
     requires { Tables work.now × (Rested work.now marks × (FreshAt marks start × (start < method_count work.now))) }
-    ensures { Settles work.now marks start result.unbounded result.marks }
+    ensures { Settles work.now marks start result }
 {
     let mut r = begin(work, marks, start);
     while 0 < r.depth {
-        r = turn(work, r);
-        if r.unbounded {
-            return r;
-        }
+        r = turn(work, r)?;
     }
-    r
+    Some(r.marks)
 }
 
 // The same of a method that may be reckoned already.
-fn settle_one(work: &[u8], marks: [Reckoned; Machine::METHODS], n: usize) -> Known
+fn settle_one(work: &[u8], marks: Marks, n: usize) -> Option<Marks>
     requires { Tables work.now × (Rested work.now marks × (n < method_count work.now)) }
-    ensures { Settles work.now marks n result.unbounded result.marks }
+    ensures { Settles work.now marks n result }
 {
-    let m = marks[n];
-    let v = m.visit;
-    match v {
-        Visit::NotVisited => {
-            let r = settle(work, marks, n);
-            let known = r.marks;
-            Known {
-                marks: known,
-                unbounded: r.unbounded,
-            }
-        }
-        Visit::OnRoute => Known {
-            marks: marks,
-            unbounded: false,
-        },
-        Visit::Done(_) => Known {
-            marks: marks,
-            unbounded: false,
-        },
+    match marks[n].visit {
+        Visit::NotVisited => settle(work, marks, n),
+        Visit::OnRoute | Visit::Done(_) => Some(marks),
     }
 }
 
 // All methods are reckoned, or there is no bound.
-fn settle_all(work: &[u8]) -> Known
+fn settle_all(work: &[u8]) -> Option<Marks>
     requires { Tables work.now }
-    ensures { Reckons work.now result.unbounded result.marks }
+    ensures { Reckons work.now result }
 {
-    let count = tables::method_count(work);
-    let mut k = Known {
-        marks: [Reckoned {
-            visit: Visit::NotVisited,
-            frames: 0,
-        }; Machine::METHODS],
-        unbounded: false,
-    };
-    let mut n = 0;
-    while n < count {
-        let marks = k.marks;
-        k = settle_one(work, marks, n);
-        if k.unbounded {
-            return k;
-        }
-        n += 1;
+    let mut marks = [Reckoned {
+        visit: Visit::NotVisited,
+        frames: 0,
+    }; Machine::METHODS];
+    for n in 0..tables::method_count(work) {
+        marks = settle_one(work, marks, n)?;
     }
-    k
+    Some(marks)
 }
 
 // Main's rows, where all methods are reckoned.
-fn reckon_main(work: &[u8], marks: [Reckoned; Machine::METHODS]) -> Answer
+fn reckon_main(work: &[u8], marks: Marks) -> Result<Bound, Refusal>
     requires { Tables work.now × AllReckoned work.now marks }
     ensures { result ≡ reckoned (program_in work.now) }
 {
-    let main = tables::main_first(work);
-    let s = scan(
-        work,
-        marks,
-        Open {
-            method: 0,
-            row: main,
-            sum: 0,
-            frames: 0,
-        },
-    );
+    let main = Open {
+        method: 0,
+        row: tables::main_first(work),
+        sum: 0,
+        frames: 0,
+    };
+    let s = scan(work, marks, main);
     let b = s.block;
-    let f = s.found;
-    match f {
-        Halt::Wait(_) => Answer::Unbounded,
-        Halt::Loop => Answer::Unbounded,
+    match s.found {
+        Halt::Wait(_) | Halt::Loop => Err(Refusal::Unbounded),
         Halt::End => {
             if (Machine::BOUND as u32) < b.sum {
-                return Answer::Passed;
+                return Err(Refusal::Passed);
             }
-            Answer::Bounded(b.sum, b.frames + 1)
+            Ok(Bound {
+                steps: b.sum,
+                frames: b.frames + 1,
+            })
         }
     }
 }
 
 // Main's bound and the most frames on a route of calls; or that a line leaves no bound, or that it is passed.
-pub fn reckon(work: &[u8]) -> Answer
+pub fn reckon(work: &[u8]) -> Result<Bound, Refusal>
     requires { Tables work.now }
     ensures { result ≡ reckoned (program_in work.now) }
 {
-    let k = settle_all(work);
-    if k.unbounded {
-        return Answer::Unbounded;
-    }
-    let marks = k.marks;
+    let Some(marks) = settle_all(work) else {
+        return Err(Refusal::Unbounded);
+    };
     reckon_main(work, marks)
 }

@@ -1,16 +1,19 @@
 -- A block's calls, row by row, and a block that is walked by its rows.
 use mathlib.Core.Path.{◌≡◌, refl, sym, ap, ◌∙◌}
-use mathlib.Core.Bool.{true, false, ◌||◌}
+use mathlib.Core.Bool.{Bool, true, false, ◌||◌}
+use mathlib.Core.Option.{none}
 use mathlib.Core.List.{List, []}
-use Prim.Native.Nat.{ℕ, suc, ◌≤◌, ◌<◌}
+use mathlib.Core.Logic.{◌⊎◌, inl, inr}
+use Prim.Native.Nat.{ℕ, suc, ◌+◌, ◌≤◌, ◌<◌}
 use native.Mathlib.Omega.{arith}
+use native.Mathlib.Numerals.{add-one}
 use lib.Dec.{eqb, ltb}
 use lib.ListN.{length}
-use borrow.Author.Tests.{lt-ltb, le-ltb}
+use borrow.Author.Tests.{eq-eqb, ne_eqb, lt-ltb, le-ltb}
 use Rattle.rules.specs.Base.{any}
 use Rattle.rules.specs.Syntax.{Stmt, Method, Program, row_numbered}
 use Rattle.rules.specs.Rules.{check_method, check_blocks}
-use Rattle.rules.specs.Bounds.{block, callees}
+use Rattle.rules.specs.Bounds.{is_end, called, block, callees}
 use Rattle.tables.specs.Decode.{row_count, method_count, first_row_at, main_first, method_at, program_in}
 use Rattle.tables.specs.Tables.{Tables}
 use Rattle.tables.proofs.Rows.{method-get}
@@ -20,7 +23,7 @@ use Rattle.bound_rows.specs.declared.Line.{Line}
 use Rattle.bound_rows.specs.declared.Line.TheVariants.{Plain, Call, Loop, End}
 use Rattle.bound_rows.specs.Lines.{line_in, Says}
 use Rattle.bound_rows.proofs.Lines.{says, row-after}
-use Rattle.fill_blocks.specs.Blocks.{block_verdict, first_row, is_end_line, is_call_line, calls_from}
+use Rattle.fill_blocks.specs.Blocks.{block_verdict, first_row, calls_from}
 
 pub clash : {A : Type 0} → true ≡ false → A
 clash e = absurd (let z : ◌≡◌ {A = ℕ} 0 1 = cc in omega arith)
@@ -29,46 +32,59 @@ module _ (P : Program) (m i : ℕ) where
   s : Stmt
   s = (row_numbered P i).stmt
 
-  end-here : (v : Line) → Says v s → is_end_line v ≡ true → calls_from P m i ≡ false
-  unfolding is_end_line calls_from any s
-  end-here Plain y e = clash (sym e)
-  end-here (Call n) y e = clash (sym e)
-  end-here Loop y e = clash (sym e)
-  end-here End y e = rw (block-ends P i y.0, callees-none (row_numbered P i) [] y.1, callees-nil) refl
+  end-here : Says End s → calls_from P m i ≡ false
+  unfolding calls_from any s
+  end-here y = rw (block-ends P i y.0, callees-none (row_numbered P i) [] y.1, callees-nil) refl
 
-  call-here : (v : Line) → Says v s → is_call_line m v ≡ true → calls_from P m i ≡ true
-  unfolding is_call_line calls_from any s
-  call-here Plain y e = clash (sym e)
-  call-here (Call n) y e =
+  call-first : (n : ℕ) → Says (Call n) s → (b : Bool) → eqb m n ≡ b → calls_from P m i ≡ (b || calls_from P m (suc i))
+  unfolding calls_from any s
+  call-first n y b e =
       rw (block_goes P i y.0, callees-some (row_numbered P i) (block P (suc i)) n y.1) (ap (λ b. b || any (eqb m) (callees (block P (suc i)))) e)
-  call-here Loop y e = clash (sym e)
-  call-here End y e = clash (sym e)
 
-  call-later : (v : Line) → Says v s → is_end_line v ≡ false → is_call_line m v ≡ false → calls_from P m i ≡ calls_from P m (suc i)
-  unfolding is_end_line is_call_line calls_from any s
-  call-later Plain y d e = rw (block_goes P i y.0, callees-none (row_numbered P i) (block P (suc i)) y.1) refl
-  call-later (Call n) y d e =
-      rw (block_goes P i y.0, callees-some (row_numbered P i) (block P (suc i)) n y.1) (ap (λ b. b || any (eqb m) (callees (block P (suc i)))) e)
-  call-later Loop y d e = rw (block_goes P i y.0, callees-none (row_numbered P i) (block P (suc i)) y.1) refl
-  call-later End y d e = clash d
+  plain-later : (is_end s ≡ false) × (called s ≡ none) → calls_from P m i ≡ calls_from P m (suc i)
+  unfolding calls_from any s
+  plain-later y = rw (block_goes P i y.0, callees-none (row_numbered P i) (block P (suc i)) y.1) refl
 
 module _ (w : List ℕ) (m i : ℕ) where
-  pub ends : is_end_line (line_in w i) ≡ true → calls_from (program_in w) m i ≡ false
-  unfolding s
-  ends e = end-here (program_in w) m i (line_in w i) (says _) e
+  says-so : (v : Line) → v ≡ line_in w i → Says v (row_numbered (program_in w) i).stmt
+  says-so v e = rw e (says _)
 
-  pub calls : is_call_line m (line_in w i) ≡ true → calls_from (program_in w) m i ≡ true
+  pub ends : End ≡ line_in w i → calls_from (program_in w) m i ≡ false
   unfolding s
-  calls e = call-here (program_in w) m i (line_in w i) (says _) e
+  ends e = end-here (program_in w) m i (says-so End e)
 
-  pub goes_on :
-      is_end_line (line_in w i) ≡ false → is_call_line m (line_in w i) ≡ false → calls_from (program_in w) m i ≡ calls_from (program_in w) m (suc i)
+  pub calls : (n : ℕ) → Call n ≡ line_in w i → n ≡ m → calls_from (program_in w) m i ≡ true
   unfolding s
-  goes_on d e = call-later (program_in w) m i (line_in w i) (says _) d e
+  calls n e d = call-first (program_in w) m i n (says-so (Call n) e) true (eq-eqb m n (sym d))
 
-  pub row-follows : Tables w → i < row_count w → is_end_line (line_in w i) ≡ false → suc i < row_count w
-  unfolding is_end_line
-  row-follows t l d = row-after w t i l (λ e. clash (ap is_end_line (sym e) ∙ d))
+  -- any other row leaves it to the next, and there is one
+  module _ (t : Tables w) (l : i < row_count w) where
+    follows : (v : Line) → v ≡ line_in w i → (v ≡ End → ⊥) → i + 1 < row_count w
+    follows v e d = let h = row-after w t i l (λ f. d (e ∙ f)) in omega arith
+
+    pub on_call :
+        (v : Line) → v ≡ line_in w i → (n : ℕ) → v ≡ Call n → (n ≡ m → ⊥) →
+        (i + 1 < row_count w) × (calls_from (program_in w) m i ≡ calls_from (program_in w) m (i + 1))
+    unfolding s
+    on_call v e n f d =
+        let c = call-first (program_in w) m i n (says-so (Call n) (sym f ∙ e)) false (ne_eqb m n (λ k. d (sym k))) in
+        (follows v e (λ g. absurd (let z : Call n ≡ End = sym f ∙ g in cc)), c ∙ ap (calls_from (program_in w) m) (sym (add-one i)))
+
+    plain : (v : Line) → v ≡ line_in w i → (v ≡ End → ⊥) → (is_end (row_numbered (program_in w) i).stmt ≡ false) × (called (row_numbered (program_in w) i).stmt ≡ none) →
+        (i + 1 < row_count w) × (calls_from (program_in w) m i ≡ calls_from (program_in w) m (i + 1))
+    unfolding s
+    plain v e d y =
+        (follows v e d, plain-later (program_in w) m i y ∙ ap (calls_from (program_in w) m) (sym (add-one i)))
+
+    pub on_plain :
+        (v : Line) → v ≡ line_in w i → (v ≡ Plain) ⊎ (v ≡ Loop) →
+        (i + 1 < row_count w) × (calls_from (program_in w) m i ≡ calls_from (program_in w) m (i + 1))
+    on_plain v e (inl f) =
+        let y = says-so Plain (sym f ∙ e) in
+        plain v e (λ g. absurd (let z : Plain ≡ End = sym f ∙ g in cc)) (y.0, y.1)
+    on_plain v e (inr f) =
+        let y = says-so Loop (sym f ∙ e) in
+        plain v e (λ g. absurd (let z : Loop ≡ End = sym f ∙ g in cc)) (y.0, y.1)
 
 -- WHERE BLOCKS START
 module _ (w : List ℕ) (j : ℕ) where

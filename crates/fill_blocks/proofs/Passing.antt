@@ -6,6 +6,7 @@ use mathlib.Core.Logic.{⊎_elim}
 use Prim.Native.Nat.{ℕ, zero, suc, ◌+◌, ◌-◌, ◌≤◌, ◌<◌}
 use native.Mathlib.Omega.{arith}
 use lib.Dec.{T}
+use Rattle.std.proofs.Common.{Result, Ok, Err, is_ok}
 use lib.ListN.{length, get_or}
 use borrow.Author.Tests.{lt-ltb, le-ltb, ne_eqb}
 use Rattle.rules.specs.Base.{all}
@@ -16,7 +17,15 @@ use Rattle.rules.specs.Rules.{check_method, check_blocks, check_program}
 use Rattle.rules.specs.Fill.{places_from}
 use Rattle.rules.specs.Calls.{is_accepted}
 use Rattle.rules.proofs.Lists.{T_true, F-false, and_intro, and_both, or_right, decide_eq}
+use Rattle.checker.specs.declared.RefusedLine.{RefusedLine}
+use Rattle.checker.specs.Checked.{verdict_of}
 use Rattle.fill_blocks.specs.Blocks.{block_verdict, calls_from, first_row, is_looked_at, passes, others_pass}
+
+-- ONE BLOCK
+pub ok-accepted : (r : Result (Unit {0}) RefusedLine) → is_ok r ≡ is_accepted (verdict_of r)
+unfolding is_accepted verdict_of
+ok-accepted (Ok u) = refl
+ok-accepted (Err e) = refl
 
 -- TESTS OF PLACES
 pub all-at : (p : ℕ → Bool) (a n : ℕ) → T (all p (places_from a n)) → (j : ℕ) → a ≤ j → j < a + n → T (p j)

@@ -1,5 +1,5 @@
 -- The blocks of a program, the methods by number and then main: which are accepted, and which call a method.
-use Rattle.std.specs.Prelude.{Bool, true, false, not, cond, ◌||◌, [], ℕ, suc, eqb, ltb, length}
+use Rattle.std.specs.Prelude.{Bool, false, not, cond, ◌||◌, [], ℕ, suc, eqb, ltb, length}
 use Rattle.rules.specs.Base.{any, all}
 use Rattle.rules.specs.Answers.{Verdict}
 use Rattle.rules.specs.Syntax.{Program, method_numbered}
@@ -7,27 +7,12 @@ use Rattle.rules.specs.Rules.{check_method, check_blocks}
 use Rattle.rules.specs.Bounds.{block, callees}
 use Rattle.rules.specs.Fill.{places_from}
 use Rattle.rules.specs.Calls.{is_accepted}
-use Rattle.bound_rows.specs.declared.Line.{Line}
-use Rattle.bound_rows.specs.declared.Line.TheVariants.{Plain, Call, Loop, End}
 
 unfoldable pub block_verdict : Program → ℕ → Verdict (Unit {0})
 block_verdict P j = cond (ltb j (length P.methods)) (check_method P (method_numbered P j)) (check_blocks P [])
 
 unfoldable pub first_row : Program → ℕ → ℕ
 first_row P j = cond (ltb j (length P.methods)) (method_numbered P j).first P.main
-
--- what the rows of a block are to its calls
-unfoldable pub is_end_line : Line → Bool
-is_end_line Plain = false
-is_end_line (Call n) = false
-is_end_line Loop = false
-is_end_line End = true
-
-unfoldable pub is_call_line : ℕ → Line → Bool
-is_call_line m Plain = false
-is_call_line m (Call n) = eqb m n
-is_call_line m Loop = false
-is_call_line m End = false
 
 -- the block from row i on calls the method m
 unfoldable pub calls_from : Program → ℕ → ℕ → Bool

@@ -7,11 +7,12 @@ ghost use Rattle.tables.specs.Decode.{row_count, program_in};
 ghost use Rattle.tables.specs.Tables.{Tables};
 ghost use Rattle.check_state.specs.States.{Wf};
 ghost use Rattle.checker.specs.Checked.{verdict_of};
-ghost use Rattle.fill_blocks.specs.Blocks.{block_verdict, first_row, is_end_line, is_call_line, calls_from, is_looked_at, passes, others_pass};
+ghost use Rattle.fill_blocks.specs.Blocks.{block_verdict, first_row, calls_from, is_looked_at, passes, others_pass};
 
 use bound_rows::Line;
 use check_equality::State;
-use checker::Verdict;
+use checker::RefusedLine;
+use tables::HeaderAt;
 
 // ONE BLOCK: a method by its number, or main after them
 
@@ -20,7 +21,7 @@ fn check_block(
     j: usize,
     key: &mut [u64; State::SLOTS],
     b: &mut [u8; State::BYTES],
-) -> Verdict
+) -> Result<(), RefusedLine>
     requires { Tables work.now × Wf key.old b.old }
     ensures { verdict_of result ≡ block_verdict (program_in work.now) j }
 {
@@ -28,15 +29,6 @@ fn check_block(
         return checker::check_method(work, j, key, b);
     }
     checker::check_main(work, key, b)
-}
-
-fn is_accepted(v: Verdict) -> bool
-    ensures { result ≡ is_accepted (verdict_of v) }
-{
-    match v {
-        Verdict::Accepted => true,
-        Verdict::Refused(_, _) => false,
-    }
 }
 
 // Is the block j accepted?
@@ -47,7 +39,7 @@ pub fn accepted(work: &[u8], j: usize) -> bool
     let mut key = check_forgetting::header();
     let mut b = [0u8; State::BYTES];
     check_forgetting::clear(&mut b);
-    is_accepted(check_block(work, j, &mut key, &mut b))
+    check_block(work, j, &mut key, &mut b).is_ok()
 }
 
 // ITS CALLS
@@ -62,40 +54,22 @@ fn first_row(work: &[u8], j: usize) -> usize
     tables::main_first(work)
 }
 
-fn is_end(l: Line) -> bool
-    ensures { result ≡ is_end_line l }
-{
-    match l {
-        Line::End => true,
-        Line::Plain => false,
-        Line::Call(_) => false,
-        Line::Loop => false,
-    }
-}
-
-// Is it a call of the method m?
-fn is_call(l: Line, m: usize) -> bool
-    ensures { result ≡ is_call_line m l }
-{
-    match l {
-        Line::Call(n) => m == n,
-        Line::End => false,
-        Line::Plain => false,
-        Line::Loop => false,
-    }
-}
-
 // Does the block from a row on call the method m?
 fn calls(work: &[u8], from: usize, m: usize) -> bool
     requires { Tables work.now × (from < row_count work.now) }
     ensures { result ≡ calls_from (program_in work.now) m from }
 {
-    let mut i = from;
-    while !is_end(bound_rows::line_at(work, i)) {
-        if is_call(bound_rows::line_at(work, i), m) {
-            return true;
+    // The block's `end` is one of the rows, so the loop does not run out.
+    for i in from..tables::half_at(work, HeaderAt::ROWS) {
+        match bound_rows::line_at(work, i) {
+            Line::End => return false,
+            Line::Call(n) => {
+                if n == m {
+                    return true;
+                }
+            }
+            Line::Plain | Line::Loop => {}
         }
-        i += 1;
     }
     false
 }
@@ -108,11 +82,7 @@ fn is_looked_at(work: &[u8], m: usize, calling: bool, j: usize) -> bool
     if j == m {
         return false;
     }
-    let c = calls(work, first_row(work, j), m);
-    if calling {
-        return c;
-    }
-    !c
+    calls(work, first_row(work, j), m) == calling
 }
 
 // Is it accepted, if it is looked at?
@@ -133,13 +103,10 @@ pub fn others_pass(work: &[u8], m: usize, calling: bool) -> bool
     requires { Tables work.now }
     ensures { result ≡ others_pass (program_in work.now) m calling }
 {
-    let n = tables::method_count(work);
-    let mut j = 0;
-    while j <= n {
+    for j in 0..=tables::method_count(work) {
         if !passes(work, m, calling, j) {
             return false;
         }
-        j += 1;
     }
     true
 }

@@ -9,6 +9,8 @@ use native.Mathlib.Nat.{zero-add}
 use lib.Dec.{ltb}
 use borrow.Author.Tests.{ltb-true, ltb-false}
 use lib.ListN.{length, get_or, set, length-set}
+use Rattle.std.proofs.Math.ListN.{get_or-append}
+use Rattle.std.proofs.Math.Seq.{get_or-append_right}
 use lib.Seq.{get_or-set_same, get_or-set_other}
 use Rattle.rules.specs.Limits.{most_fields, most_filled, most_classes, places_bytes}
 use Rattle.rules.specs.Syntax.{Field, own, acc, this_variable, parameter}
@@ -35,9 +37,6 @@ module _ (w : List ℕ) (t : Tables w) (c : ℕ) where
 
   pub class-few : (n r : ℕ) → n ≡ class_count w → c < n → r ≡ field_count_at w c → r ≤ most_fields
   class-few n r e l f = omega (arith, (t.class_fits c (omega arith)).count)
-
-  pub class-small : (n : ℕ) → n ≡ class_count w → c < n → c < most_classes
-  class-small n e l = omega (arith, t.classes)
 
   pub no-class : (n : ℕ) → n ≡ class_count w → n ≤ c → get_or (program_in w).classes c [] ≡ []
   unfolding program_in
@@ -67,17 +66,6 @@ module _ (w : List ℕ) (t : Tables w) (c : ℕ) where
       ((t.class_fits c k).names j h, omega (arith, t.classes), omega (arith, (t.class_fits c k).count))
 
 -- THE ATOM AT A PLACE
-left-get : {A : Type 0} (l m : List A) (i : ℕ) (d : A) → i < length l → get_or (l ++ m) i d ≡ get_or l i d
-left-get [] m i d h = absurd (omega arith)
-left-get (a ∷ l) m zero d h = refl
-left-get (a ∷ l) m (suc i) d h = left-get l m i d (omega arith)
-
-right-get : {A : Type 0} (l m : List A) (i : ℕ) (d : A) → length l ≤ i → get_or (l ++ m) i d ≡ get_or m (i - length l) d
-right-get [] m i d h = ap (λ k. get_or m k d) (let z : i ≡ i - 0 = omega arith in z)
-right-get (a ∷ l) m zero d h = absurd (omega arith)
-right-get (a ∷ l) m (suc i) d h =
-    right-get l m i d (omega arith) ∙ ap (λ k. get_or m k d) (let z : i - length l ≡ suc i - suc (length l) = omega arith in z)
-
 pub fields-length : (x : ℕ) (fs : List Field) → length (fields_of x fs) ≡ length fs
 unfolding fields_of
 fields-length x [] = refl
@@ -100,7 +88,7 @@ module _ (w : List ℕ) (s : Sought) (r : Ready w s) (p : ℕ) (low : 1 ≤ p) w
       let i : p - 1 ≡ pred p = omega arith in
       let k : pred p < length fs = omega (arith, r.own) in
       let g : get_or (accesses_of w s) (pred p) no_access ≡ record { variable = this_variable; field = (get_or fs (pred p) some_field).name } =
-      left-get (fields_of this_variable fs) _ (pred p) no_access (omega (arith, fields-length this_variable fs)) ∙ fields-get this_variable fs (pred p) some_field k in
+      get_or-append (fields_of this_variable fs) _ no_access (pred p) (omega (arith, fields-length this_variable fs)) ∙ fields-get this_variable fs (pred p) some_field k in
       let n : (get_or fs (pred p) some_field).name ≡ field_name_at w s.class (pred p) = field-there w r.spared.tables s.class (pred p) some_field k in
       let q : f ≡ field_name_at w s.class (pred p) = e ∙ ap (field_name_at w s.class) i in
       record {
@@ -119,7 +107,7 @@ module _ (w : List ℕ) (s : Sought) (r : Ready w s) (p : ℕ) (low : 1 ≤ p) w
       let i : pred p - length gs ≡ p - s.own - 1 = omega (arith, n₀) in
       let k : p - s.own - 1 < length fs = omega (arith, r.count) in
       let g : get_or (accesses_of w s) (pred p) no_access ≡ record { variable = parameter; field = (get_or fs (p - s.own - 1) some_field).name } =
-      right-get gs (fields_of parameter fs) (pred p) no_access (omega (arith, n₀))
+      get_or-append_right gs (fields_of parameter fs) (pred p) no_access (omega (arith, n₀))
       ∙ (ap (λ j. get_or (fields_of parameter fs) j no_access) i ∙ fields-get parameter fs (p - s.own - 1) some_field k) in
       let n : (get_or fs (p - s.own - 1) some_field).name ≡ field_name_at w s.parameter (p - s.own - 1) = field-there w r.spared.tables s.parameter (p - s.own - 1) some_field k in
       record {

@@ -7,6 +7,7 @@ use Prim.Native.Nat.{ℕ, zero, suc, ◌+◌, ◌-◌, ◌≤◌, ◌<◌}
 use native.Mathlib.Omega.{arith}
 use native.Mathlib.Nat.{zero-add}
 use native.Mathlib.Numerals.{add-one}
+use Rattle.std.proofs.lemmas.List.{append-nil, append_assoc}
 use Rattle.rules.specs.Base.{first}
 use Rattle.rules.specs.Fill.{places_from, choose}
 use Rattle.rules.specs.Rules.{check_program}
@@ -22,15 +23,6 @@ use Rattle.filler.specs.declared.Sought.{Sought}
 use Rattle.filler.specs.Search.{accesses_of, places_in, HasSet, Chosen, Tried, passes_with, Seeking, Finds}
 use Rattle.filler.proofs.Firsts.{first-left, first-right, first-map-some, first-map-none, first-same}
 use Rattle.filler.proofs.Keeping.{accesses-same, ready-same, passes_same, there-kept, formula-kept}
-
--- LISTS
-append-nil : {A : Type 0} (l : List A) → l ++ [] ≡ l
-append-nil [] = refl
-append-nil (a ∷ l) = ap (λ r. a ∷ r) (append-nil l)
-
-append-one : {A : Type 0} (l : List A) (a : A) (m : List A) → (l ++ (a ∷ [])) ++ m ≡ l ++ (a ∷ m)
-append-one [] a m = refl
-append-one (b ∷ l) a m = ap (λ r. b ∷ r) (append-one l a m)
 
 -- THE SET SO FAR STAYS
 set-kept :
@@ -89,7 +81,7 @@ no-place-left w s b (suc k) chosen p n l S =
 -- A PLACE IS TAKEN
 passes-joined : (w : List ℕ) (s : Sought) (ps : List ℕ) (p : ℕ) (qs : List ℕ) → passes_with w s (ps ++ (p ∷ [])) qs ≡ passes_with w s ps (p ∷ qs)
 unfolding passes_with
-passes-joined w s ps p qs = ap (is_accepted_with (program_in w) s.method (accesses_of w s)) (append-one ps p qs)
+passes-joined w s ps p qs = ap (is_accepted_with (program_in w) s.method (accesses_of w s)) (append_assoc ps (p ∷ []) qs)
 
 both-parts :
     (left p n : ℕ) → (left ≡ 0 → ⊥) → p ≤ n →
@@ -105,16 +97,6 @@ both-parts (suc k) p n z h =
 module _
     (w : List ℕ) (s : Sought) (b : List ℕ) (left chosen p : ℕ) (n : left ≡ 0 → ⊥) (h : p ≤ s.count) (S : Seeking w s b left chosen p)
     (w₁ b₁ : List ℕ) (C : Chosen w s b chosen p w₁ b₁) where
-  pub seeks-with : Seeking w₁ s b₁ (left - 1) (chosen + 1) (p + 1)
-  seeks-with =
-      record {
-        ready = C.ready;
-        set = rw (add-one chosen) (C.more S.set);
-        room = omega (arith, S.room, n);
-        low = omega arith;
-        four = C.four;
-      }
-
   module _ (r₁ : Bool) (w₂ b₂ : List ℕ) (F : Finds w₁ s b₁ (left - 1) (chosen + 1) (p + 1) r₁ w₂ b₂) where
     same₂ : SameBut s.method w w₂
     same₂ = same-trans s.method w w₁ w₂ C.same F.same

@@ -7,13 +7,13 @@ use Prim.Native.Nat.{ℕ, zero, suc, ◌+◌, ◌-◌, ◌≤◌, ◌<◌}
 use native.Mathlib.Omega.{arith}
 use lib.ListN.{length, get_or, take, replicate, length-append}
 use Rattle.rules.specs.Base.{first}
-use Rattle.rules.specs.Limits.{most_fields, most_filled, places_bytes, work_bytes}
+use Rattle.rules.specs.Limits.{most_filled, places_bytes, work_bytes}
 use Rattle.rules.specs.Syntax.{Formula, this_variable, parameter}
 use Rattle.rules.specs.Rules.{check_program}
 use Rattle.rules.specs.Fill.{places_from, choose, choose_up_to, sets_of}
 use Rattle.rules.specs.Calls.{is_accepted}
 use Rattle.filling.specs.Sets.{fields_of, accesses_in, formula_of, program_with, is_accepted_with, set_in}
-use Rattle.tables.specs.Decode.{run, byte_at, atom_count, method_count, program_in}
+use Rattle.tables.specs.Decode.{run, byte_at, method_count, program_in}
 use Rattle.tables.specs.Tables.{Tables}
 use Rattle.fill_rows.specs.Rewrites.{SameBut}
 use Rattle.fill_rows.proofs.Rewritten.{same-trans}
@@ -22,7 +22,7 @@ use Rattle.fill_blocks.proofs.Calling.{methods-are}
 use Rattle.fill_blocks.proofs.Apart.{others_apart, count_same}
 use Rattle.fill_blocks.proofs.Passing.{accepted-by-parts}
 use Rattle.filler.specs.declared.Sought.{Sought}
-use Rattle.filler.specs.Search.{accesses_of, Ready, places_in, passes_with, Seeking, Finds, Fits, Held, SetIs, Fills}
+use Rattle.filler.specs.Search.{accesses_of, Ready, places_in, passes_with, Seeking, Finds, Held, SetIs, Fills}
 use Rattle.filler.proofs.Firsts.{first-left, first-right, first-same}
 use Rattle.filler.proofs.Choosing.{fields-length}
 use Rattle.filler.proofs.Keeping.{passes_same}
@@ -142,31 +142,6 @@ module _ (w : List ℕ) (s : Sought) (r : Ready w s) where
   pub all-tried : (k : ℕ) → most_filled < k → k ≤ most_filled + 1 → tried k ≡ none → set_in (program_in w) s.method (accesses_of w s) ≡ none
   unfolding below
   all-tried k l h e = let z : k ≡ 5 = omega arith in set_is ∙ (rw z at e)
-
--- WHAT IS SOUGHT
-pub sought-ready :
-    (w : List ℕ) (m : ℕ) → Fits w m → (c d n own more : ℕ) → n ≡ atom_count w →
-    (own ≡ length (get_or (program_in w).classes c [])) × (own ≤ most_fields) →
-    (more ≡ length (get_or (program_in w).classes d [])) × (more ≤ most_fields) →
-    Ready w (record { method = m; first = n; class = c; parameter = d; own = own; count = own + more })
-sought-ready w m F c d n own more e (o, p) (q, r) =
-    record {
-      spared =
-          record {
-            tables = F.tables;
-            method = F.method;
-            low = omega arith;
-            room = omega (arith, F.spare);
-            rows = λ i l. rw e (F.tables.row_fits i l).operands;
-            others = λ j l d. rw e (F.tables.method_fits j l).formulas;
-            ensures = rw e (F.tables.method_fits m F.method).formulas.ensures;
-          };
-      own = o;
-      count = ap (λ k. own + k) q;
-      own_few = p;
-      few = omega arith;
-      apart = F.apart;
-    }
 
 -- WHAT THE AREA HOLDS
 zeros-after :

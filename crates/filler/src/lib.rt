@@ -140,12 +140,10 @@ pub fn fill(
         return false;
     }
     let s = seek(work, method, class, parameter);
-    let mut k = 0;
-    while k <= Machine::FILLED {
+    for k in 0..=Machine::FILLED {
         if find(work, s, places, k, 0, 1) {
             return true;
         }
-        k += 1;
     }
     false
 }

@@ -8,8 +8,8 @@ use native.Mathlib.Numerals.{add-one}
 use native.Mathlib.Nat.{mod-eq_of_lt}
 use lib.Dec.{ltb}
 use borrow.Author.Tests.{lt-ltb, le-ltb}
-use lib.ListN.{length, get_or, take, set, length-append, length-set}
-use lib.Seq.{take-suc, take-suc-set}
+use lib.ListN.{length, take, drop, set, length-append, length-drop, length-set}
+use lib.Seq.{length-take-le, take_at, take-suc-set}
 use Rattle.rules.specs.Base.{Name}
 use Rattle.rules.specs.Printed.{digits_before, digits, signed}
 use Rattle.printer.specs.Writes.{Writes}
@@ -35,8 +35,21 @@ module _ {o : List ℕ} {a : ℕ} {xs p : List ℕ} {e : ℕ} (x : Writes o a xs
   pub writes_as : {ys : List ℕ} → xs ≡ ys → Writes o a ys p e
   writes_as h = subst (λ l. Writes o a l p e) h x
 
-pub one-taken : (w : List ℕ) (i : ℕ) → i < length w → take i w ++ (get_or w i 0 ∷ []) ≡ take (i + 1) w
-one-taken w i h = rw add-one (sym (take-suc w i 0 h))
+-- as many bytes of o as w has, from a on, are those of w
+pub writes-all :
+    (o w : List ℕ) (a k : ℕ) → k ≡ length w → a + length w ≤ length o →
+    Writes o a w (take a o ++ (w ++ drop k (drop a o))) (a + length w)
+writes-all o w a k e h =
+    let rest : List ℕ = drop k (drop a o) in
+    let before : length (take a o) ≡ a = length-take-le a o (omega (arith, h)) in
+    let size : length (take a o ++ (w ++ rest)) ≡ length o =
+    omega (arith, length-append (take a o) (w ++ rest), length-append w rest, length-drop k (drop a o), length-drop a o, before, e, h) in
+    record {
+      size = size;
+      end = refl;
+      high = omega (arith, size, h);
+      are = rw (← append_assoc (take a o) w rest) (take_at (take a o ++ w) rest (a + length w) (omega (arith, length-append (take a o) w, before)));
+    }
 
 -- DIGITS
 pub digits-before : (k n : ℕ) (ds : Name) → digits_before k n ds ≡ digits_before k n [] ++ ds

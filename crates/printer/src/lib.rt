@@ -29,13 +29,9 @@ pub fn put_word(out: &mut [u8], at: usize, w: &[u8]) -> usize
     requires { at + length w.now ≤ length out.old }
     ensures { Writes out.old at w.now out.new result }
 {
-    let mut e = at;
-    let mut i = 0;
-    while i < w.len() {
-        e = put(out, e, w[i]);
-        i += 1;
-    }
-    e
+    let end = at + w.len();
+    out[at..end].copy_from_slice(w);
+    end
 }
 
 // NUMBERS
@@ -56,7 +52,7 @@ fn low_digit(n: u32) -> u8
     (n % BASE) as u8 + b'0'
 }
 
-// The digits of n, at most k + 1 of them.
+// The digits of n, at most k + 1 of them. By hand: `write!` needs a writer over the buffer, and at each use a proof that it does not fail.
 fn put_digits(out: &mut [u8], at: usize, k: usize, n: u32) -> usize
     requires { at + k < length out.old }
     ensures { Writes out.old at (digits_before k n []) out.new result }

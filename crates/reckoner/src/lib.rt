@@ -7,31 +7,25 @@ ghost use Rattle.tables.specs.Decode.{program_in};
 ghost use Rattle.tables.specs.Tables.{Tables};
 ghost use Rattle.reckoner.specs.Reckoned.{verdict_of};
 
-use bound_lines::Place;
-use bound_walk::Answer;
+use bound_walk::{Bound, Refusal as Why};
 
+// Why there is no bound: a line leaves none, or it is passed.
 #[derive(Clone, Copy)]
-pub enum Outcome {
-    // the bound and the frames
-    Given(u32, u32),
-    // the line that leaves none
+pub enum Refusal {
     Unbounded(usize),
     Passed,
 }
 
-pub fn bound(work: &[u8]) -> Outcome
+pub fn bound(work: &[u8]) -> Result<Bound, Refusal>
     requires { Tables work.now }
     ensures { verdict_of result ≡ bound_program (program_in work.now) }
 {
-    let a = bound_walk::reckon(work);
-    match a {
-        Answer::Bounded(b, f) => Outcome::Given(b, f),
-        Answer::Passed => Outcome::Passed,
-        Answer::Unbounded => {
-            let Place::At(l) = bound_lines::first_line(work) else {
-                return Outcome::Unbounded(0);
-            };
-            Outcome::Unbounded(l)
+    match bound_walk::reckon(work) {
+        Ok(b) => Ok(b),
+        Err(Why::Passed) => Err(Refusal::Passed),
+        Err(Why::Unbounded) => {
+            let l = bound_lines::first_line(work).unwrap();
+            Err(Refusal::Unbounded(l))
         }
     }
 }

@@ -5,18 +5,11 @@ ghost use Rattle.std.specs.Prelude.{◌≡◌, ◌+◌, ◌≤◌, length, IfOk}
 ghost use Rattle.rules.specs.Printed.{printed};
 ghost use Rattle.printer.specs.Writes.{Prints};
 ghost use Rattle.printer.specs.Answers.{out_bytes};
-ghost use Rattle.script.specs.Inputs.{area_bytes, Within};
+ghost use Rattle.script.specs.Inputs.{area_bytes};
 
 use rules::Machine;
 use std::io;
 use std::io::{Input as Source, Print, Read};
-
-// What reading gave: so many bytes at the start of the area, or a read that failed.
-#[derive(Clone, Copy)]
-pub enum Input {
-    Bytes(usize),
-    Failed,
-}
 
 // One byte more than a text may have, so that a longer one is told by its length.
 const AREA_BYTES: usize = Machine::TEXT_BYTES + 1;
@@ -35,21 +28,19 @@ fn read_more<R: Read>(reader: &mut R, area: &mut [u8], from: usize) -> io::Resul
     reader.read(&mut area[from..])
 }
 
-// Reads until the area is full or the input ends.
-fn read_input<R: Read>(reader: &mut R, area: &mut [u8]) -> Input
-    ensures { Within area.new result }
+// Reads until the area is full or the input ends: so many bytes at the start of the area. Which read failed is not told.
+fn read_input<R: Read>(reader: &mut R, area: &mut [u8]) -> io::Result<usize>
+    ensures { IfOk result (λ n. n ≤ length area.new) }
 {
     let mut done = 0;
     while done < area.len() {
-        let Ok(n) = read_more(reader, area, done) else {
-            return Input::Failed;
-        };
+        let n = read_more(reader, area, done).map_err(|_| io::Error::other("read"))?;
         if n == 0 {
-            return Input::Bytes(done);
+            return Ok(done);
         }
         done += n;
     }
-    Input::Bytes(done)
+    Ok(done)
 }
 
 // What is printed for the text, at the start of `out`; how many bytes.
@@ -70,9 +61,6 @@ fn print_answer<P: Print>(to: &P, text: &[u8]) -> io::Result<()> {
 
 fn main(rt: HostRuntime) -> io::Result<()> {
     let mut area = text_area();
-    let input = read_input(&mut rt.reader(), &mut area);
-    match input {
-        Input::Bytes(n) => print_answer(&rt, &area[..n]),
-        Input::Failed => Err(io::Error::other("read")),
-    }
+    let n = read_input(&mut rt.reader(), &mut area)?;
+    print_answer(&rt, &area[..n])
 }

@@ -7,7 +7,7 @@ use native.Mathlib.Omega.{arith}
 use native.Mathlib.Numerals.{add-one}
 use lib.Dec.{T, eqb, leb, leb→le, le→leb}
 use lib.ListN.{length, get_or, take, set, length-append, length-map, length-set, get_or-map}
-use lib.Seq.{length-take-le, take_all, take-suc, take-suc-set, get_or-take}
+use lib.Seq.{length-take-le, take_all, take-suc, take-suc-set}
 use borrow.Author.Tests.{eq-eqb, ne_eqb}
 use Rattle.rules.specs.Base.{bytes, all, between}
 use Rattle.rules.specs.Text.{line_feed, digit_zero}
@@ -45,17 +45,19 @@ pub is_place : (p : ℕ) → 1 ≤ p → p ≤ 5 → IsPlace p
 unfolding between
 is_place p x y = and_intro (leb 1 p) (leb p 5) (le→leb 1 p x) (le→leb p 5 y)
 
+pub digits_count : {m : Places} → Known m → length (take m.count m.digits) ≡ m.count
+digits_count {m} k = length-take-le m.count m.digits (omega (arith, k.few, k.size))
+
 pub places_count : {m : Places} → Known m → length (places_in m) ≡ m.count
 places_count {m} k =
-    length-map (take m.count m.digits) (λ d. d - digit_zero) ∙ length-take-le m.count m.digits (omega (arith, k.few, k.size))
+    length-map (take m.count m.digits) (λ d. d - digit_zero) ∙ digits_count k
 
 -- the digit at i is that of its place
-pub place_is : {m : Places} (i : ℕ) → Known m → i < m.count → get_or (places_in m) i 0 ≡ get_or m.digits i 0 - digit_zero
-place_is {m} i k h =
-    get_or-map (λ d. d - digit_zero) (take m.count m.digits) i 0 ∙ ap (λ d. d - digit_zero) (get_or-take m.count m.digits i 0 h)
+pub place_is : (m : Places) (i : ℕ) → get_or (places_in m) i 0 ≡ get_or (take m.count m.digits) i 0 - digit_zero
+place_is m i = get_or-map (λ d. d - digit_zero) (take m.count m.digits) i 0
 
-pub place-known : {m : Places} (i : ℕ) → Known m → i < m.count → IsPlace (get_or m.digits i 0 - digit_zero)
-place-known {m} i k h = subst IsPlace (place_is i k h) (all-at (between 1 5) (places_in m) i k.places (omega (arith, h, places_count k)))
+pub place-known : {m : Places} (i : ℕ) → Known m → i < m.count → IsPlace (get_or (take m.count m.digits) i 0 - digit_zero)
+place-known {m} i k h = subst IsPlace (place_is m i) (all-at (between 1 5) (places_in m) i k.places (omega (arith, h, places_count k)))
 
 pub none-known : (m : Places) → m.count ≡ 0 → length m.digits ≡ most_statements → (places_in m ≡ []) × Known m
 unfolding all
@@ -136,9 +138,9 @@ body-append (q ∷ m) p = ap (λ l. statement q ++ l) (body-append m p) ∙ sym 
 
 pub body_more :
     {m : Places} (i : ℕ) → Known m → i < m.count →
-    body (take i (places_in m)) ++ statement (get_or m.digits i 0 - digit_zero) ≡ body (take (i + 1) (places_in m))
+    body (take i (places_in m)) ++ statement (get_or (take m.count m.digits) i 0 - digit_zero) ≡ body (take (i + 1) (places_in m))
 body_more {m} i k h =
-    ap (λ p. body (take i (places_in m)) ++ statement p) (sym (place_is i k h))
+    ap (λ p. body (take i (places_in m)) ++ statement p) (sym (place_is m i))
     ∙ (sym (body-append (take i (places_in m)) (get_or (places_in m) i 0))
     ∙ ap body (rw add-one (sym (take-suc (places_in m) i 0 (omega (arith, h, places_count k))))))
 

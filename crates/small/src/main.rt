@@ -19,7 +19,7 @@ const TEXT_BYTES: usize = 95;
 // The lines of all mains fit, were all of them accepted.
 const OUT_BYTES: usize = 586;
 
-// The place of each statement, and how many there are.
+// The place of each statement, and how many there are: numbers, since the list prints them as digits.
 #[derive(Clone, Copy)]
 pub struct Place {}
 
@@ -35,7 +35,7 @@ impl Place {
     const COUNT: u8 = 5;
 }
 
-// The places of a main's statements, as digits.
+// The places of a main's statements, as digits: a buffer and how many there are, since nothing is on a heap.
 #[derive(Clone, Copy)]
 pub struct Places {
     pub digits: [u8; MOST_STATEMENTS],
@@ -55,17 +55,13 @@ fn none() -> Places
 }
 
 // One statement more.
-fn with_place(m: Places, place: u8) -> Places
+fn with_place(mut m: Places, place: u8) -> Places
     requires { Known m × (m.count < most_statements) × IsPlace place }
     ensures { Adds m place result }
 {
-    let mut digits = m.digits;
-    let count = m.count;
-    digits[count] = b'0' + place;
-    Places {
-        digits: digits,
-        count: count + 1,
-    }
+    m.digits[m.count] = b'0' + place;
+    m.count += 1;
+    m
 }
 
 // WRITING: each function writes from a place of the area on and returns the place after
@@ -99,12 +95,9 @@ fn put_body(text: &mut [u8], at: usize, m: Places) -> usize
     requires { Known m × (at + most_body ≤ length text.old) }
     ensures { Writes text.old at (body (places_in m)) text.new result }
 {
-    let digits = m.digits;
     let mut e = at;
-    let mut i = 0;
-    while i < m.count {
-        e = put_statement(text, e, digits[i] - b'0');
-        i += 1;
+    for &d in &m.digits[..m.count] {
+        e = put_statement(text, e, d - b'0');
     }
     e
 }
@@ -124,9 +117,7 @@ fn put_line(out: &mut [u8], at: usize, m: Places) -> usize
     requires { Known m × (at + length (line_of (places_in m)) ≤ length out.old) }
     ensures { Writes out.old at (line_of (places_in m)) out.new result }
 {
-    let digits = m.digits;
-    let count = m.count;
-    let e = printer::put_word(out, at, &digits[..count]);
+    let e = printer::put_word(out, at, &m.digits[..m.count]);
     printer::put(out, e, b'\n')
 }
 
@@ -164,9 +155,7 @@ fn put_mains(out: &mut [u8], at: usize, left: usize, m: Places) -> usize
         return put_accepted(out, at, m);
     }
     let mut e = at;
-    let mut place = 0;
-    while place < Place::COUNT {
-        place += 1;
+    for place in 1..=Place::COUNT {
         e = put_mains(out, e, left - 1, with_place(m, place));
     }
     e
@@ -179,10 +168,8 @@ fn put_small(out: &mut [u8]) -> usize
 {
     let m = none();
     let mut e = 0;
-    let mut count = 0;
-    while count <= MOST_STATEMENTS {
+    for count in 0..=MOST_STATEMENTS {
         e = put_mains(out, e, count, m);
-        count += 1;
     }
     e
 }

@@ -2,13 +2,13 @@
 use mathlib.Core.Path.{◌≡◌, refl, sym, ap, subst, ◌∙◌}
 use mathlib.Core.Bool.{Bool, true, false, cond}
 use mathlib.Core.List.{List, [], ◌∷◌}
-use mathlib.Core.Logic.{⊎_elim}
 use mathlib.Core.Option.{Option, none, some}
 use Prim.Native.Nat.{ℕ, ◌≤◌, ◌<◌}
 use native.Mathlib.Omega.{arith}
 use lib.Dec.{leb}
 use lib.ListN.{length, replicate}
-use borrow.Author.Tests.{eq-eqb, ne_eqb}
+use Rattle.std.specs.Prelude as Std
+use Rattle.std.specs.Prelude.{Ok, Err, is_err}
 use Rattle.rules.specs.Limits.{most_bytes, bounds_bytes, most_bound}
 use Rattle.rules.specs.Answers.{Refusal, Verdict, accepted, refused, then, refusal_number, unbounded, bound_passed}
 use Rattle.rules.specs.Syntax.{Row, Program, no_row, row_numbered}
@@ -23,15 +23,15 @@ use Rattle.tables.specs.Decode.{program_in}
 use Rattle.tables.specs.Stores.{put_word}
 use Rattle.tables.proofs.BytesRead.{put-word-length}
 use Rattle.bound_laws.proofs.Repeating.{repeating-row}
-use Rattle.soundness.proofs.Demand3.{check-decides}
-use Rattle.reckoner.specs.declared.Outcome.{Outcome}
-use Rattle.reckoner.specs.declared.Outcome.TheVariants.{Given, Unbounded, Passed}
+use Rattle.bound_walk.specs.declared.Bound.{Bound}
+use Rattle.reckoner.specs.declared.Refusal as Declared
+use Rattle.reckoner.specs.declared.Refusal.TheVariants.{Unbounded, Passed}
 use Rattle.reckoner.specs.Reckoned.{verdict_of}
 use Rattle.widths.proofs.ReadBounds.{all-get, Within, RowFits, read-within, items-small, items-few, program-fits, check-within}
 use Rattle.station.specs.declared.Reply.{Reply}
-use Rattle.station.specs.Station.{numbers_in, Found, BoundAs, bound_found}
+use Rattle.station.specs.Station.{Finding, numbers_in, no_bound, Found, BoundAs, bound_found}
 use Rattle.station.proofs.Words.{word_first, word_more, words-all}
-use Rattle.station.proofs.Texts.{refusal-small}
+use Rattle.station.proofs.Texts.{not-zero, refusal-small}
 
 -- THE AREA
 pub two-words :
@@ -60,52 +60,43 @@ module _ (v : Verdict (ℕ × ℕ)) where
   unfolding bound_numbers bound_bytes words_bytes word_bytes cleared
   refused-answer r l e i b m c = rw (← e) (ap (λ (n : ℕ). (n, l)) i, c ∙ ap (λ (n : ℕ). replicate n 0) m)
 
-  -- by the reckoner's outcome
-  module _ (o : Outcome) (is : verdict_of o ≡ v) where
-    pub outcome-given : (b f : ℕ) → o ≡ Given b f → {d : List ℕ} → d ≡ words_bytes (b ∷ f ∷ []) → Answers (0, 0) d
+  -- by the reckoner's answer
+  module _ (o : Std.Result Bound Declared.Refusal) (is : verdict_of o ≡ v) where
+    pub outcome-given : (b : Bound) → o ≡ Ok b → {d : List ℕ} → d ≡ words_bytes (b.steps ∷ b.frames ∷ []) → Answers (0, 0) d
     unfolding verdict_of
-    outcome-given b f e i = given-answer b f (ap verdict_of (sym e) ∙ is) i
+    outcome-given b e i = given-answer b.steps b.frames (ap verdict_of (sym e) ∙ is) i
 
     module _ (b : List ℕ) (m : length b ≡ bounds_bytes) {d : List ℕ} (c : d ≡ cleared b) where
-      pub outcome-unbounded : (l : ℕ) → o ≡ Unbounded l → Answers (15, l) d
-      unfolding verdict_of refusal_number
+      pub outcome-unbounded : (l : ℕ) → o ≡ Err (Unbounded l) → Answers (refusal_number unbounded, l) d
+      unfolding verdict_of
       outcome-unbounded l e = refused-answer unbounded l (ap verdict_of (sym e) ∙ is) refl b m c
 
-      pub outcome-passed : o ≡ Passed → Answers (16, 0) d
-      unfolding verdict_of refusal_number
+      pub outcome-passed : o ≡ Err Passed → Answers (refusal_number bound_passed, 0) d
+      unfolding verdict_of
       outcome-passed e = refused-answer bound_passed 0 (ap verdict_of (sym e) ∙ is) refl b m c
 
 -- WHAT WAS FOUND
-abbrev zeros_of : ℕ × ℕ → Bounds
-zeros_of p = record { number = p.0; line = p.1; bound = 0; frames = 0 }
+pub found_none : {f : Finding} (P : Program) → f ≡ Ok tt → bound_numbers (bound_program P) ≡ bound_found f P
+found_none P e = rw e refl
 
-module _ (f : Reply) (P : Program) where
-  pub found_none : f.number ≡ 0 → bound_numbers (bound_program P) ≡ bound_found f P
-  unfolding bound_found
-  found_none e = sym (rw (eq-eqb f.number 0 e))
-
-  found-refusal : (f.number ≡ 0 → ⊥) → zeros_of (numbers_in f) ≡ bound_found f P
-  unfolding bound_found
-  found-refusal n = sym (rw (ne_eqb f.number 0 n))
-
-  pub found-zeros :
-      (f.number ≡ 0 → ⊥) → (b : List ℕ) → length b ≡ bounds_bytes → {d : List ℕ} → d ≡ cleared b → BoundAs (bound_found f P) f d
-  unfolding bound_bytes words_bytes word_bytes cleared
-  found-zeros n b m c =
-      let i = found-refusal n in
-      (ap numbers_of i, c ∙ ap (λ (n : ℕ). replicate n 0) m ∙ ap bound_bytes i)
+pub found-zeros :
+    (f : Finding) (P : Program) → is_err f ≡ true → (b : List ℕ) → length b ≡ bounds_bytes → {d : List ℕ} → d ≡ cleared b →
+    BoundAs (bound_found f P) f d
+unfolding bound_bytes words_bytes word_bytes cleared
+found-zeros (Ok u) P e b m c = absurd (let y : false ≡ true = e in cc)
+found-zeros (Err r) P e b m c = (refl, c ∙ ap (λ (n : ℕ). replicate n 0) m)
 
 -- where check refuses, so does bound; where it does not, the program decides
 module _ (t : List ℕ) where
-  check-refuses : ((check_text t).0 ≡ 0 → ⊥) → bound_text t ≡ zeros_of (check_text t)
+  check-refuses : ((check_text t).0 ≡ 0 → ⊥) → bound_text t ≡ no_bound (check_text t)
   unfolding check_text bound_text bound_items verdict_numbers bound_numbers then
   check-refuses n = go (read_text t) refl
     where
-      go : (v : Verdict (List Item)) → read_text t ≡ v → bound_text t ≡ zeros_of (check_text t)
+      go : (v : Verdict (List Item)) → read_text t ≡ v → bound_text t ≡ no_bound (check_text t)
       go (refused r l) e = rw e refl
       go (accepted items) e = by (check_items items) refl
         where
-          by : (v : Verdict (Unit {0})) → check_items items ≡ v → bound_text t ≡ zeros_of (check_text t)
+          by : (v : Verdict (Unit {0})) → check_items items ≡ v → bound_text t ≡ no_bound (check_text t)
           by (refused r l) c = rw (e, c) refl
           by (accepted u) c = absurd (n (rw (e, c) refl))
 
@@ -118,22 +109,12 @@ module _ (t : List ℕ) where
       by (accepted u) c = rw (e, c) refl
       by (refused r l) c = refusal-not-zero r (sym (rw (e, c) refl) ∙ n)
 
-  pub found-bound : {f : Reply} {w : List ℕ} → Found (check_text t) t f w → bound_found f (program_in w) ≡ bound_text t
-  found-bound {f} {w} F =
-      ⊎_elim (λ r. refused λ z. omega (arith, r.number.0, number, z)) (λ e. given (number ∙ ap (λ (p : ℕ × ℕ). p.0) e)) (check-decides t 0)
-    where
-      number : f.number ≡ (check_text t).0
-      number = ap (λ (p : ℕ × ℕ). p.0) F.numbers
-
-      refused : (f.number ≡ 0 → ⊥) → bound_found f (program_in w) ≡ bound_text t
-      refused n = sym (found-refusal f (program_in w) n) ∙ ap zeros_of F.numbers ∙ sym (check-refuses (λ z. n (number ∙ z)))
-
-      given : f.number ≡ 0 → bound_found f (program_in w) ≡ bound_text t
-      given z =
-          let (u, x) = F.taken z in
-          sym (found_none f (program_in w) z)
-          ∙ ap (λ P. bound_numbers (bound_program P)) x.program
-          ∙ sym (check-accepts (sym number ∙ z) x.items x.read)
+  pub found-bound : {f : Finding} {w : List ℕ} → Found (check_text t) t f w → bound_found f (program_in w) ≡ bound_text t
+  found-bound {f = Ok u} {w} F =
+      let x = (F.taken refl).1 in
+      ap (λ P. bound_numbers (bound_program P)) x.program
+      ∙ sym (check-accepts (ap (λ (p : ℕ × ℕ). p.0) (sym F.numbers)) x.items x.read)
+  found-bound {f = Err r} {w} F = ap no_bound F.numbers ∙ sym (check-refuses (not-zero r F.numbers))
 
 -- WHAT IS RETURNED FITS
 line_small : (n : ℕ) (v : Verdict (ℕ × ℕ)) → Within n v → (bound_numbers v).line ≤ n

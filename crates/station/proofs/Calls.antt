@@ -12,7 +12,7 @@ use Rattle.rules.specs.Areas.{packed, cleared, result_bytes, bound_bytes, check_
 use Rattle.rules.proofs.Lists.{T_true, and_both}
 use Rattle.station.specs.declared.Reply.{Reply}
 use Rattle.areas.specs.Lengths.{areas_fit}
-use Rattle.station.specs.Station.{numbers_in, run_numbers, FillAs, CheckLeaves, RunLeaves, BoundLeaves, FillLeaves}
+use Rattle.station.specs.Station.{Finding, numbers_in, numbers_found, run_numbers, FillAs, CheckLeaves, RunLeaves, BoundLeaves, FillLeaves}
 
 pub pack-is : {f : Reply} {p : ℕ × ℕ} {r : ℕ} → numbers_in f ≡ p → r ≡ packed f.number f.line → r ≡ packed p.0 p.1
 pack-is e i = i ∙ ap (λ (p : ℕ × ℕ). packed p.0 p.1) e
@@ -76,7 +76,7 @@ module _ (t w b : List ℕ) where
   wrong-fill n = (sym (rw n), sym (rw n), sym (rw n))
 
   pub right-fill :
-      areas_fit w b places_bytes ≡ true → {f : Reply} (v : List ℕ) {u d : List ℕ} {r : ℕ} → FillAs (fill_text t) f d → length v ≡ work_bytes →
-      u ≡ cleared v → r ≡ packed f.number f.line → FillLeaves (fill_call t w b) r u d
+      areas_fit w b places_bytes ≡ true → (o : Finding) {f : Reply} (v : List ℕ) {u d : List ℕ} {r : ℕ} → FillAs (fill_text t) o d →
+      numbers_in f ≡ numbers_found o → length v ≡ work_bytes → u ≡ cleared v → r ≡ packed f.number f.line → FillLeaves (fill_call t w b) r u d
   unfolding fill_call areas_fit
-  right-fill m v (e, d) s c p = rw m (pack-is e p, cleared-is w v (fit-lengths w b m).0 s c, d)
+  right-fill m o v (e, d) i s c p = rw m (pack-is (i ∙ e) p, cleared-is w v (fit-lengths w b m).0 s c, d)

@@ -8,10 +8,12 @@ use Prim.Native.Nat.{ℕ, suc, ◌+◌, ◌≤◌, ◌<◌}
 use native.Mathlib.Omega.{arith}
 use lib.Dec.{eqb, ltb}
 use lib.ListN.{length, replicate, length-append}
-use borrow.Author.Tests.{eq-eqb, ne_eqb, eqb-true, le-ltb, ltb-false}
+use borrow.Author.Tests.{eqb-true, le-ltb, ltb-false}
+use Rattle.std.specs.Prelude as Std
+use Rattle.std.specs.Prelude.{Ok, Err, is_some}
 use Rattle.rules.specs.Base.{Name}
 use Rattle.rules.specs.Limits.{most_bytes, places_bytes}
-use Rattle.rules.specs.Answers.{Refusal, Verdict, accepted, refused, then, refusal_number, text_too_long, unframed, no_set_accepted, not_one_star}
+use Rattle.rules.specs.Answers.{Refusal, Verdict, accepted, refused, then, refusal_number, text_too_long, unframed, no_set_accepted}
 use Rattle.rules.specs.Syntax.{Program}
 use Rattle.rules.specs.Text.{line_feed, lines, onto}
 use Rattle.rules.specs.Grammar.{Line}
@@ -30,36 +32,17 @@ use Rattle.filling.specs.Claims.{joined, OneStar}
 use Rattle.filling.proofs.Joined.{lines-joined}
 use Rattle.filling.proofs.Search.{search-over-programs}
 use Rattle.tables.specs.Decode.{program_in}
-use Rattle.reader.specs.declared.Refusal as Reasons
-use Rattle.reader.specs.Readings.{refusal_of, framed_verdict}
+use Rattle.reader.specs.Readings.{framed_verdict}
 use Rattle.unstarring.proofs.Lines.{starred-long, keyword-long}
 use Rattle.star_reader.specs.declared.Star.{Star}
-use Rattle.star_reader.specs.declared.Starred.{Starred}
+use Rattle.star_reader.specs.declared.NoStar.{NoStar}
 use Rattle.star_reader.specs.StarRead.{StarRead, StarredIs}
 use Rattle.filler.specs.Search.{Held, SetIs}
 use Rattle.widths.proofs.ReadBounds.{All, Within, read-within, lines-few}
 use Rattle.station.specs.declared.Reply.{Reply}
-use Rattle.station.specs.Station.{numbers_in, FillAs, set_at_star}
+use Rattle.station.specs.Station.{starless, Finding, numbers_in, FillAs, set_at_star}
 use Rattle.station.specs.Promises.{FillNumber}
 use Rattle.station.proofs.Texts.{refusal-small}
-
--- THE READER'S ANSWER BY ITS CASES
-module _ (t w : List ℕ) {r : Starred} (x : StarredIs t w r) where
-  pub starred-refused : {why : Reasons.Refusal} {l : ℕ} → r ≡ Starred.Refused why l → fill_set t ≡ refused (refusal_of why) l
-  unfolding StarredIs
-  starred-refused e = subst (StarredIs t w) e x
-
-  pub starred-missing : r ≡ Starred.Missing → fill_set t ≡ refused not_one_star 0
-  unfolding StarredIs
-  starred-missing e = subst (StarredIs t w) e x
-
-  pub starred-second : {l : ℕ} → r ≡ Starred.Second l → fill_set t ≡ refused not_one_star l
-  unfolding StarredIs
-  starred-second e = subst (StarredIs t w) e x
-
-  pub starred-one : {s : Star} → r ≡ Starred.One s → StarRead t w s
-  unfolding StarredIs
-  starred-one e = subst (StarredIs t w) e x
 
 -- THE ANSWER
 abbrev pub numbers_of : Filled → ℕ × ℕ
@@ -85,44 +68,49 @@ no-places b n e = e ∙ ap (λ (m : ℕ). replicate m 0) n
 
 -- of a text that is refused before the sets are tried
 module _ (t : List ℕ) {l : ℕ} {d : List ℕ} (z : d ≡ replicate places_bytes 0) where
-  pub text-refused :
-      {r : Refusal} {n : ℕ} → fill_set t ≡ refused r l → n ≡ refusal_number r → ((n, l) ≡ numbers_of (fill_text t)) × (d ≡ (fill_text t).places)
+  text-refused :
+      {r : Refusal} → fill_set t ≡ refused r l → ((refusal_number r, l) ≡ numbers_of (fill_text t)) × (d ≡ (fill_text t).places)
   unfolding fill_text
-  text-refused e i = refused-answer e i z
+  text-refused e = refused-answer e refl z
 
-  pub text-not-one : fill_set t ≡ refused not_one_star l → ((18, l) ≡ numbers_of (fill_text t)) × (d ≡ (fill_text t).places)
-  unfolding refusal_number
-  text-not-one e = text-refused e refl
+-- and by the reader's answer
+pub unstarred :
+    (t w : List ℕ) (e : NoStar) {d : List ℕ} → StarredIs t w (Err e) → d ≡ replicate places_bytes 0 → FillAs (fill_text t) (Err (starless e)) d
+unfolding StarredIs
+unstarred t w (NoStar.Refused e) x z = text-refused t z x
+unstarred t w NoStar.Missing x z = text-refused t z x
+unstarred t w (NoStar.Second l) x z = text-refused t z x
+
+pub starred : {t w : List ℕ} (s : Star) → StarredIs t w (Ok s) → StarRead t w s
+unfolding StarredIs
+starred s x = x
 
 -- THE SETS
 module _ (P : Program) (s : Star) where
   abbrev found : Option (List ℕ)
   found = set_in P s.method (accesses_in P.classes s.class s.parameter)
 
-  star-found : s.unframed ≡ 0 → {o : Option (List ℕ)} → found ≡ o → set_at_star P s ≡ set_found s.line o
+  star-found : is_some s.unframed ≡ false → {o : Option (List ℕ)} → found ≡ o → set_at_star P s ≡ set_found s.line o
   unfolding set_at_star
-  star-found e i = rw (eq-eqb s.unframed 0 e, i)
+  star-found e i = rw (e, i)
 
-  pub set-unframed : (s.unframed ≡ 0 → ⊥) → {d : List ℕ} → d ≡ replicate places_bytes 0 → Answers (set_at_star P s) (17, s.line) d
-  unfolding set_at_star set_found refusal_number
-  set-unframed n z = refused-answer {r = no_set_accepted} (rw (ne_eqb s.unframed 0 n)) refl z
+  pub set-unframed : is_some s.unframed ≡ true → {d : List ℕ} → d ≡ replicate places_bytes 0 → Answers (set_at_star P s) (refusal_number no_set_accepted, s.line) d
+  unfolding set_at_star set_found
+  set-unframed n z = refused-answer {r = no_set_accepted} (rw n) refl z
 
-  module _ (e : s.unframed ≡ 0) (r : Bool) (b : List ℕ) (x : SetIs found r b) where
+  module _ (e : is_some s.unframed ≡ false) (r : Bool) (b : List ℕ) (x : SetIs found r b) where
     pub set_given : r ≡ true → Answers (set_at_star P s) (0, 0) b
     unfolding SetIs set_found
     set_given i = let (ps, q, h) = subst (λ (r : Bool). SetIs found r b) i x in given-answer (star-found e q) h
 
-    pub set-none : r ≡ false → {d : List ℕ} → d ≡ replicate places_bytes 0 → Answers (set_at_star P s) (17, s.line) d
-    unfolding SetIs set_found refusal_number
+    pub set-none : r ≡ false → {d : List ℕ} → d ≡ replicate places_bytes 0 → Answers (set_at_star P s) (refusal_number no_set_accepted, s.line) d
+    unfolding SetIs set_found
     set-none i z = refused-answer (star-found e (subst (λ (r : Bool). SetIs found r b) i x)) refl z
 
-framed-accepts : (u : ℕ) → is_accepted (framed_verdict u) ≡ eqb u 0
+framed-accepts : {A : Type 0} (u : Std.Option ℕ) (x : Option A) → cond (is_accepted (framed_verdict u)) x none ≡ cond (is_some u) none x
 unfolding is_accepted framed_verdict
-framed-accepts u = go (eqb u 0)
-  where
-    go : (b : Bool) → is_accepted {A = Unit {0}} (cond b (accepted tt) (refused unframed u)) ≡ b
-    go true = refl
-    go false = refl
+framed-accepts Std.None x = refl
+framed-accepts (Std.Some l) x = refl
 
 -- a text with one star
 module _ {t w : List ℕ} {s : Star} (x : StarRead t w s) where
@@ -146,21 +134,22 @@ module _ {t w : List ℕ} {s : Star} (x : StarRead t w s) where
 
   same_set :
       set_for x.items (method_of_line x.ks s.line) (accesses_of_line (declarations x.ks) x.items (method_of_line x.ks s.line))
-      ≡ cond (eqb s.unframed 0) (set_with (program_in w) s.class s.parameter) none
+      ≡ cond (is_some s.unframed) none (set_with (program_in w) s.class s.parameter)
   unfolding set_for
   same_set =
       ap (λ (m : ℕ). set_for x.items m (accesses_of_line (declarations x.ks) x.items m)) (sym x.method)
-      ∙ ap (λ (b : Bool). cond b (set_with (program x.items) owner given) none) (ap is_accepted x.framed ∙ framed-accepts s.unframed)
-      ∙ ap₂ (λ (c d : ℕ). cond (eqb s.unframed 0) (set_with (program x.items) c d) none) (sym x.class) (sym x.parameter)
-      ∙ ap (λ (P : Program). cond (eqb s.unframed 0) (set_with P s.class s.parameter) none) (sym x.program)
+      ∙ ap (λ (b : Bool). cond b (set_with (program x.items) owner given) none) (ap is_accepted x.framed)
+      ∙ framed-accepts s.unframed (set_with (program x.items) owner given)
+      ∙ ap₂ (λ (c d : ℕ). cond (is_some s.unframed) none (set_with (program x.items) c d)) (sym x.class) (sym x.parameter)
+      ∙ ap (λ (P : Program). cond (is_some s.unframed) none (set_with P s.class s.parameter)) (sym x.program)
 
   star-set : fill_set t ≡ set_at_star (program_in w) s
   unfolding set_at_star
   star-set = by_lines ∙ searched ∙ search-over-programs (lines t) x.ks x.items s.line x.one ∙ ap (set_found s.line) same_set
 
-  pub text-star : {f : Reply} {d : List ℕ} → FillAs (fill_numbers (set_at_star (program_in w) s)) f d → FillAs (fill_text t) f d
+  pub text-star : (f : Finding) {d : List ℕ} → FillAs (fill_numbers (set_at_star (program_in w) s)) f d → FillAs (fill_text t) f d
   unfolding fill_text
-  text-star y = rw star-set y
+  text-star f y = rw star-set y
 
 -- THE COPY OF A TEXT without its stars is no longer
 joined-lines : (t : List ℕ) → joined (lines t) ≡ t

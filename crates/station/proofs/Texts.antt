@@ -1,12 +1,14 @@
 -- The calls on a text, by what the reader answers.
 use mathlib.Core.Path.{◌≡◌, refl, sym, ap, subst, ◌∙◌}
+use mathlib.Core.Bool.{true, false}
 use mathlib.Core.List.{List, ◌∷◌}
-use mathlib.Core.Logic.{◌⊎◌, inl, inr, ⊎_elim}
+use mathlib.Core.Logic.{⊎_elim}
 use Prim.Native.Nat.{ℕ, ◌≤◌, ◌<◌}
 use native.Mathlib.Omega.{arith}
 use lib.ListN.{length, replicate}
-use borrow.Author.Tests.{eq-eqb, ne_eqb}
-use Rattle.rules.specs.Limits.{results_bytes, most_bytes, values_shown, heap_objects}
+use Rattle.std.specs.Prelude as Std
+use Rattle.std.specs.Prelude.{Ok, Err, Some, None, is_err}
+use Rattle.rules.specs.Limits.{work_bytes, results_bytes, most_bytes, values_shown, heap_objects}
 use Rattle.rules.specs.Answers as Answers
 use Rattle.rules.specs.Answers.{Verdict, accepted, refused, then, refusal_number, ending_number, stop_number}
 use Rattle.rules.specs.Items.{Item}
@@ -17,161 +19,150 @@ use Rattle.rules.specs.Lean as Lean
 use Rattle.rules.specs.Joint.{room_of}
 use Rattle.rules.specs.Calls.{Result, check_items, checked_items, verdict_numbers, check_text, whole_heap, outcome_result, refused_result, run_items, trial_text, run_text_in, run_text, lean_text}
 use Rattle.rules.specs.Areas.{cleared, word_bytes, words_bytes, result_bytes}
-use Rattle.rules.specs.Demand.{IsRefusal}
-use Rattle.rules.proofs.Lists.{decide_eq}
 use Rattle.rules.proofs.Tries.{refusal-number, refusal-not-zero, accepted-inj}
 use Rattle.rules.proofs.LinesTaken.{read_taken}
-use Rattle.soundness.proofs.ReadRefuses.{read-refused}
 use Rattle.soundness.proofs.LeanRuns.{accepted-lean, checked-accepted, lean-is-run}
 use Rattle.soundness.proofs.Demand3.{check-accepted, same-from-both, check-decides}
 use Rattle.tables.specs.Decode.{program_in}
-use Rattle.reader.specs.declared.Refusal as Reasons
-use Rattle.reader.specs.declared.Reading.{Reading}
-use Rattle.reader.specs.Readings.{refusal_of, framed_verdict, Tabled, ReadingIs}
-use Rattle.check_entailment.specs.declared.Answer.{Answer}
-use Rattle.checker.specs.declared.Verdict as Checks
-use Rattle.checker.specs.Checked as Checker
+use Rattle.reader.specs.declared.RefusedLine as Read
+use Rattle.reader.specs.Readings.{framed_verdict, Tabled, ReadingIs}
+use Rattle.checker.specs.declared.RefusedLine.{RefusedLine}
 use Rattle.checker.specs.Checked.{verdict_of}
-use Rattle.machine.specs.declared.Ran.{Ran}
-use Rattle.machine.specs.Runs.{number, main_values, RanAs}
-use Rattle.lean_machine.specs.declared.Ran as Declared
+use Rattle.machine.specs.Runs.{Ran, number, main_values, RanAs}
 use Rattle.lean_machine.specs.Runs as Leans
 use Rattle.lean_machine.specs.Runs.{Accepted}
 use Rattle.joint.proofs.Counts.{refusing, whole-heap-is-run}
 use Rattle.widths.proofs.ReadBounds.{items-small, items-few, program-fits}
 use Rattle.widths.proofs.RunBounds.{outcome_fits}
 use Rattle.widths.proofs.Returned.{fits}
-use Rattle.station.specs.declared.Reply.{Reply}
-use Rattle.station.specs.Station.{numbers_in, run_numbers, Found, unless_refused, share_run, lean_run}
+use Rattle.station.specs.declared.Refused.{Refused}
+use Rattle.station.specs.Station.{refusal_of, unread, unchecked, Finding, numbers_found, run_numbers, Found, unless_refused, share_run, lean_run}
 
 -- THE READER'S ANSWER BY ITS CASES
-module _ (t w : List ℕ) (r : Reading) (x : ReadingIs t w r) where
-  pub reading-refused : (why : Reasons.Refusal) (l : ℕ) → r ≡ Reading.Refused why l → read_text t ≡ refused (refusal_of why) l
+module _ (t w : List ℕ) where
+  unread-text : (e : Read.RefusedLine) → ReadingIs t w (Err e) → read_text t ≡ refused (refusal_of (unread e).why) (unread e).line
   unfolding ReadingIs
-  reading-refused why l e = subst (ReadingIs t w) e x
+  unread-text e x = x
 
-  pub reading-read : (u : ℕ) → r ≡ Reading.Read u → Tabled t w u
+  pub tabled : (u : Std.Option ℕ) → ReadingIs t w (Ok u) → Tabled t w u
   unfolding ReadingIs
-  reading-read u e = subst (ReadingIs t w) e x
+  tabled u x = x
 
 -- WHAT IS FOUND OF A TEXT
 
 -- a number that refuses is not 0
-pub none-taken : {A : Type 0} (r : Answers.Refusal) {n : ℕ} → n ≡ refusal_number r → n ≡ 0 → A
-none-taken r i e = refusal-not-zero r (sym i ∙ e)
+pub not-zero : (r : Refused) {v : ℕ × ℕ} → numbers_found (Err r) ≡ v → v.0 ≡ 0 → ⊥
+not-zero r e z = refusal-not-zero (refusal_of r.why) (ap (λ (p : ℕ × ℕ). p.0) e ∙ z)
 
-pub refused-read :
-    (t : List ℕ) {r : Answers.Refusal} {n l : ℕ} → n ≡ refusal_number r → read_text t ≡ refused r l → (n, l) ≡ verdict_numbers (read_text t)
+refused-read : (t : List ℕ) (r : Refused) → read_text t ≡ refused (refusal_of r.why) r.line → numbers_found (Err r) ≡ verdict_numbers (read_text t)
 unfolding verdict_numbers
-refused-read t {l = l} i e = ap (λ (m : ℕ). (m, l)) i ∙ sym (rw e)
+refused-read t r e = sym (rw e)
 
-pub taken-read : {t w : List ℕ} {u : ℕ} → Tabled t w u → (0, 0) ≡ verdict_numbers (read_text t)
+taken-read : {t w : List ℕ} {u : Std.Option ℕ} → Tabled t w u → (0, 0) ≡ verdict_numbers (read_text t)
 unfolding verdict_numbers
 taken-read x = sym (rw x.read)
 
-pub refused-checked :
-    (t : List ℕ) {r : Answers.Refusal} {n l : ℕ} → n ≡ refusal_number r → read_text t ≡ refused r l → (n, l) ≡ check_text t
+refused-checked : (t : List ℕ) (r : Refused) → read_text t ≡ refused (refusal_of r.why) r.line → numbers_found (Err r) ≡ check_text t
 unfolding check_text then verdict_numbers
-refused-checked t {l = l} i e = ap (λ (m : ℕ). (m, l)) i ∙ sym (rw e)
+refused-checked t r e = sym (rw e)
 
-pub taken-checked :
-    {t w : List ℕ} {u : ℕ} → Tabled t w u → check_text t ≡ verdict_numbers (then (framed_verdict u) (λ v. check_program (program_in w)))
+taken-checked :
+    {t w : List ℕ} {u : Std.Option ℕ} → Tabled t w u → check_text t ≡ verdict_numbers (then (framed_verdict u) (λ v. check_program (program_in w)))
 unfolding check_text check_items then
 taken-checked x = rw (x.read, x.framed, ← x.program)
 
+module _ {t w : List ℕ} (n : length w ≡ work_bytes) where
+  module _ (e : Read.RefusedLine) (x : ReadingIs t w (Err e)) where
+    pub unread-found : Found (verdict_numbers (read_text t)) t (Err (unread e)) w
+    unread-found = record { numbers = refused-read t (unread e) (unread-text t w e x); taken = λ q. absurd cc; size = n }
+
+    pub unread-checked : Found (check_text t) t (Err (unread e)) w
+    unread-checked = record { numbers = refused-checked t (unread e) (unread-text t w e x); taken = λ q. absurd cc; size = n }
+
+  module _ (u : Std.Option ℕ) (x : ReadingIs t w (Ok u)) where
+    pub read-found : Found (verdict_numbers (read_text t)) t (Ok tt) w
+    read-found = record { numbers = taken-read (tabled t w u x); taken = λ q. (u, tabled t w u x); size = n }
+
+    pub checked-found :
+        (f : Finding) → numbers_found f ≡ verdict_numbers (then (framed_verdict u) (λ v. check_program (program_in w))) → Found (check_text t) t f w
+    checked-found f e =
+        record { numbers = e ∙ sym (taken-checked (tabled t w u x)); taken = λ q. (u, tabled t w u x); size = n }
+
 -- number 10, then the rules
-module _ (u : ℕ) (v : Verdict (Unit {0})) where
+module _ (u : Std.Option ℕ) (v : Verdict (Unit {0})) where
   abbrev verdict : ℕ × ℕ
   verdict = verdict_numbers (then (framed_verdict u) (λ x. v))
 
-  pub found-unframed : (u ≡ 0 → ⊥) → (10, u) ≡ verdict
-  unfolding verdict_numbers then framed_verdict refusal_number
-  found-unframed n = sym (rw (ne_eqb u 0 n))
+  pub found-unframed : (l : ℕ) → u ≡ Some l → (refusal_number Answers.unframed, l) ≡ verdict
+  unfolding verdict_numbers then framed_verdict
+  found-unframed l e = sym (rw e)
 
-  by-rules : u ≡ 0 → verdict_numbers v ≡ verdict
+  by-rules : u ≡ None → verdict_numbers v ≡ verdict
   unfolding then framed_verdict
   by-rules e = sym (rw e)
 
-  module _ (none : u ≡ 0) {c : Checks.Verdict} (is : verdict_of c ≡ v) where
-    pub found-accepted : c ≡ Checks.Verdict.Accepted → (0, 0) ≡ verdict
+  module _ (none : u ≡ None) (c : Std.Result (Unit {0}) RefusedLine) (is : verdict_of c ≡ v) where
+    pub found-accepted : c ≡ Ok tt → (0, 0) ≡ verdict
     unfolding verdict_of verdict_numbers
     found-accepted e = ap verdict_numbers (sym (ap verdict_of e) ∙ is) ∙ by-rules none
 
-    pub found-refused :
-        (a : Answer) (l : ℕ) → c ≡ Checks.Verdict.Refused a l → {n : ℕ} → n ≡ refusal_number (Checker.refusal_of a) → (n, l) ≡ verdict
+    pub found-refused : (r : RefusedLine) → c ≡ Err r → numbers_found (Err (unchecked r)) ≡ verdict
     unfolding verdict_of verdict_numbers
-    found-refused a l e i = ap (λ (m : ℕ). (m, l)) i ∙ (ap verdict_numbers (sym (ap verdict_of e) ∙ is) ∙ by-rules none)
+    found-refused r e = ap verdict_numbers (sym (ap verdict_of e) ∙ is) ∙ by-rules none
 
 -- RUN AND TRIAL
-taken-tried : {t w : List ℕ} {u : ℕ} (k : ℕ) → Tabled t w u → trial_text t k ≡ share_run heap_objects (program_in w) k
+taken-tried : {t w : List ℕ} {u : Std.Option ℕ} (k : ℕ) → Tabled t w u → trial_text t k ≡ share_run heap_objects (program_in w) k
 unfolding trial_text run_items room_of
 taken-tried k x = rw (x.read, ← x.program)
 
 taken-ran :
-    {t w : List ℕ} {u : ℕ} (j k : ℕ) → Tabled t w u → (check_text t).0 ≡ 0 → run_text_in (room_of j) t k ≡ share_run j (program_in w) k
+    {t w : List ℕ} {u : Std.Option ℕ} (j k : ℕ) → Tabled t w u → (check_text t).0 ≡ 0 → run_text_in (room_of j) t k ≡ share_run j (program_in w) k
 unfolding run_text_in run_items checked_items then
 taken-ran {t} j k x z =
     let (items, r, c) = check-accepted t z in
     let i : items ≡ x.items = accepted-inj (sym r ∙ x.read) in
     rw (r, c, i, ← x.program)
 
--- a text that the reader refuses, or takes
-read-decides :
-    (t : List ℕ) (k : ℕ) →
-    (IsRefusal (verdict_numbers (read_text t)).0 × (trial_text t k ≡ refused_result (verdict_numbers (read_text t)))) ⊎ (verdict_numbers (read_text t) ≡ (0, 0))
+-- a text that the reader refuses
+unread-tried :
+    (t : List ℕ) (k : ℕ) → ((verdict_numbers (read_text t)).0 ≡ 0 → ⊥) → trial_text t k ≡ refused_result (verdict_numbers (read_text t))
 unfolding trial_text run_items verdict_numbers
-read-decides t k = go (read_text t) refl
+unread-tried t k n = go (read_text t) refl
   where
-    go :
-        (v : Verdict (List Item)) → read_text t ≡ v →
-        (IsRefusal (verdict_numbers (read_text t)).0 × (trial_text t k ≡ refused_result (verdict_numbers (read_text t)))) ⊎ (verdict_numbers (read_text t) ≡ (0, 0))
-    go (accepted items) e = inr (rw e refl)
-    go (refused r l) e = let (a, b) = read-refused t r l e in inl (rw e ((a, omega (arith, b)), refl))
+    go : (v : Verdict (List Item)) → read_text t ≡ v → trial_text t k ≡ refused_result (verdict_numbers (read_text t))
+    go (accepted items) e = absurd (n (rw e refl))
+    go (refused r l) e = rw e refl
 
-module _ (f : Reply) (r : Result) where
-  pub found_none : f.number ≡ 0 → unless_refused f r ≡ r
-  unfolding unless_refused
-  found_none e = rw (eq-eqb f.number 0 e)
+-- by the test
+pub found-nothing : (f : Finding) → is_err f ≡ false → f ≡ Ok tt
+found-nothing (Ok u) e = refl
+found-nothing (Err r) e = absurd (let y : true ≡ false = e in cc)
 
-  found-refusal : (f.number ≡ 0 → ⊥) → unless_refused f r ≡ refused_result (numbers_in f)
-  unfolding unless_refused
-  found-refusal n = rw (ne_eqb f.number 0 n)
+pub found_none : {f : Finding} (x : Result) → f ≡ Ok tt → x ≡ unless_refused f x
+found_none x e = rw e refl
 
-  -- zeros in results
-  pub found-zeros :
-      (f.number ≡ 0 → ⊥) → (b : List ℕ) → length b ≡ results_bytes →
-      (numbers_in f ≡ run_numbers (unless_refused f r)) × (cleared b ≡ result_bytes (unless_refused f r))
-  unfolding cleared result_bytes words_bytes word_bytes refused_result
-  found-zeros n b e =
-      let i = found-refusal n in
-      (sym (ap run_numbers i), ap (λ (m : ℕ). replicate m 0) e ∙ sym (ap result_bytes i))
+-- zeros in results
+pub found-zeros :
+    (f : Finding) (x : Result) (b : List ℕ) → is_err f ≡ true → length b ≡ results_bytes →
+    (numbers_found f ≡ run_numbers (unless_refused f x)) × (cleared b ≡ result_bytes (unless_refused f x))
+unfolding cleared result_bytes words_bytes word_bytes refused_result
+found-zeros (Ok u) x b e n = absurd (let y : false ≡ true = e in cc)
+found-zeros (Err r) x b e n = (refl, ap (λ (m : ℕ). replicate m 0) n)
 
 -- with what was found of a text, the run that the tables give is what trial answers, or run
-module _ {t w : List ℕ} {f : Reply} (k : ℕ) where
-  by-refusal : (x : Result) {v : ℕ × ℕ} {r : Result} → Found v t f w → IsRefusal v.0 → r ≡ refused_result v → unless_refused f x ≡ r
-  by-refusal x {v = v} F i e =
-      let n : f.number ≡ v.0 = ap (λ (p : ℕ × ℕ). p.0) F.numbers in
-      found-refusal f _ (λ z. omega (arith, i.0, n, z)) ∙ (ap refused_result F.numbers ∙ sym e)
-
-  by-tables : {v : ℕ × ℕ} → Found v t f w → v ≡ (0, 0) → unless_refused f (share_run heap_objects (program_in w) k) ≡ trial_text t k
-  by-tables F e =
-      let z = ap (λ (p : ℕ × ℕ). p.0) (F.numbers ∙ e) in
-      found_none f _ z ∙ sym (taken-tried k (F.taken z).1)
-
+module _ {t w : List ℕ} (k : ℕ) where
   pub found-tried :
-      Found (verdict_numbers (read_text t)) t f w → unless_refused f (share_run heap_objects (program_in w) k) ≡ trial_text t k
-  found-tried F = ⊎_elim (λ r. by-refusal _ F r.0 r.1) (by-tables F) (read-decides t k)
+      {f : Finding} → Found (verdict_numbers (read_text t)) t f w → unless_refused f (share_run heap_objects (program_in w) k) ≡ trial_text t k
+  found-tried {f = Ok u} F = sym (taken-tried k (F.taken refl).1)
+  found-tried {f = Err r} F = ap refused_result F.numbers ∙ sym (unread-tried t k (not-zero r F.numbers))
 
   -- with a share of j objects for the heap
-  pub found-share : (j : ℕ) → Found (check_text t) t f w → unless_refused f (share_run j (program_in w) k) ≡ run_text_in (room_of j) t k
-  found-share j F =
-      ⊎_elim (λ r. by-refusal _ F r.number (refusing (room_of j) t k (λ z. omega (arith, r.number.0, z))))
-      (λ e.
-      let z = ap (λ (p : ℕ × ℕ). p.0) (F.numbers ∙ e) in
-      found_none f _ z ∙ sym (taken-ran j k (F.taken z).1 (ap (λ (p : ℕ × ℕ). p.0) e)))
-      (check-decides t k)
+  pub found-share :
+      {f : Finding} (j : ℕ) → Found (check_text t) t f w → unless_refused f (share_run j (program_in w) k) ≡ run_text_in (room_of j) t k
+  found-share {f = Ok u} j F = sym (taken-ran j k (F.taken refl).1 (ap (λ (p : ℕ × ℕ). p.0) (sym F.numbers)))
+  found-share {f = Err r} j F = ap refused_result F.numbers ∙ sym (refusing (room_of j) t k (not-zero r F.numbers))
 
-  pub found-run : Found (check_text t) t f w → unless_refused f (share_run heap_objects (program_in w) k) ≡ run_text t k
+  pub found-run : {f : Finding} → Found (check_text t) t f w → unless_refused f (share_run heap_objects (program_in w) k) ≡ run_text t k
   found-run F = found-share heap_objects F ∙ whole-heap-is-run t k
 
 -- what the machine ends with
@@ -187,27 +178,24 @@ module _ (j : ℕ) {w w' : List ℕ} {k : ℕ} {r : Ran} (x : RanAs (room_of j) 
 -- LEAN
 
 -- the tables of an accepted text
-pub tables-accepted : {t w : List ℕ} {f : Reply} → Found (check_text t) t f w → f.number ≡ 0 → Accepted (program_in w)
+pub tables-accepted : {t w : List ℕ} {f : Finding} → Found (check_text t) t f w → f ≡ Ok tt → Accepted (program_in w)
 unfolding checked_items then
-tables-accepted {t} F z =
-    let x = (F.taken z).1 in
-    let (items, r, c) = check-accepted t (sym (ap (λ (p : ℕ × ℕ). p.0) F.numbers) ∙ z) in
+tables-accepted {t} F q =
+    let x = (F.taken q).1 in
+    let n : (0, 0) ≡ check_text t = subst (λ f. numbers_found f ≡ check_text t) q F.numbers in
+    let (items, r, c) = check-accepted t (ap (λ (p : ℕ × ℕ). p.0) (sym n)) in
     let i : items ≡ x.items = accepted-inj (sym r ∙ x.read) in
     rw (x.program, ← i) (checked-accepted t items (rw (r, c) refl))
 
-pub found-lean : {t w : List ℕ} {f : Reply} (k : ℕ) → Found (check_text t) t f w → unless_refused f (lean_run (program_in w) k) ≡ lean_text t k
+pub found-lean : {t w : List ℕ} {f : Finding} (k : ℕ) → Found (check_text t) t f w → unless_refused f (lean_run (program_in w) k) ≡ lean_text t k
 unfolding room_of
-found-lean {t} {w} {f} k F =
-    ⊎_elim
-    (λ (z : f.number ≡ 0).
-    let (W, c) = tables-accepted F z in
-    ap (unless_refused f) (ap outcome_result (accepted-lean (program_in w) W c whole_heap k)))
-    (λ (n : f.number ≡ 0 → ⊥). found-refusal f _ n ∙ sym (found-refusal f _ n))
-    (decide_eq f.number 0)
-    ∙ (found-run k F ∙ sym (lean-is-run t k))
+found-lean {t} {w} {f = Ok u} k F =
+    let (W, c) = tables-accepted F refl in
+    ap outcome_result (accepted-lean (program_in w) W c whole_heap k) ∙ (found-run k F ∙ sym (lean-is-run t k))
+found-lean {t} {w} {f = Err r} k F = found-run k F ∙ sym (lean-is-run t k)
 
 -- what the lean machine ends with
-module _ {w w' : List ℕ} {k : ℕ} {r : Declared.Ran} (x : Leans.RanAs w k w' r) where
+module _ {w w' : List ℕ} {k : ℕ} {r : Leans.Ran} (x : Leans.RanAs w k w' r) where
   pub lean-numbers : {n : ℕ} → n ≡ Leans.number r.ending → (n, r.line) ≡ run_numbers (lean_run (program_in w) k)
   unfolding outcome_result Leans.number Lean.outcome_of
   lean-numbers i = ap (λ (m : ℕ). (m, r.line)) i ∙ sym (ap (λ o. run_numbers (outcome_result o)) x.outcome)

@@ -7,7 +7,8 @@ ghost use Rattle.rules.specs.Calls.{run_text_in};
 ghost use Rattle.rules.specs.Areas.{bytes_of_script};
 ghost use Rattle.station.specs.Parts.{part_of, put_part, CountLeaves};
 
-use crate::{Reply, check_text, pack, run_found};
+use crate::numbers::pack;
+use crate::{Reply, check_text, run_found};
 use rules::Machine;
 use tables::Bytes;
 

@@ -1,12 +1,13 @@
 // A run by the lean machine, for `lean`; zeros where the text is refused.
-ghost use Rattle.std.specs.Prelude.{◌≡◌, length};
+ghost use Rattle.std.specs.Prelude.{◌≡◌, Ok, length};
 ghost use Rattle.rules.specs.Limits.{work_bytes, results_bytes};
 ghost use Rattle.tables.specs.Decode.{program_in};
 ghost use Rattle.tables.specs.Tables.{Tables};
 ghost use Rattle.lean_machine.specs.Runs.{Accepted};
 ghost use Rattle.station.specs.Station.{RunAs, unless_refused, lean_run};
 
-use crate::{Reply, put_results};
+use crate::numbers::told;
+use crate::{Refused, Reply, put_results};
 
 fn lean_tables(work: &mut [u8], steps: u32, results: &mut [u8]) -> Reply
     requires { (Tables work.old × Accepted (program_in work.old)) × (length results.old ≡ results_bytes) }
@@ -14,20 +15,25 @@ fn lean_tables(work: &mut [u8], steps: u32, results: &mut [u8]) -> Reply
 {
     let r = lean_machine::run(work, steps);
     put_results(work, results, r.steps);
-    let ending = r.ending;
-    let number = lean_machine::number_of(ending);
-    let line = r.line as usize;
-    Reply { number, line }
+    Reply {
+        number: lean_machine::number_of(r.ending),
+        line: r.line as usize,
+    }
 }
 
 // Runs the tables, unless a refusal was found.
-pub fn lean_found(found: Reply, work: &mut [u8], steps: u32, results: &mut [u8]) -> Reply
-    requires { (found.number ≡ 0 → Tables work.old × Accepted (program_in work.old)) × (length work.old ≡ work_bytes) × (length results.old ≡ results_bytes) }
+pub fn lean_found(
+    found: Result<(), Refused>,
+    work: &mut [u8],
+    steps: u32,
+    results: &mut [u8],
+) -> Reply
+    requires { (found ≡ Ok tt → Tables work.old × Accepted (program_in work.old)) × (length work.old ≡ work_bytes) × (length results.old ≡ results_bytes) }
     ensures { RunAs (unless_refused found (lean_run (program_in work.old) steps)) result results.new work.new }
 {
-    if found.number != 0 {
+    if found.is_err() {
         areas::clear(results);
-        return found;
+        return told(found);
     }
     lean_tables(work, steps, results)
 }

@@ -6,35 +6,75 @@ mod bounds;
 mod counts;
 mod fills;
 mod leans;
+mod numbers;
 
-ghost use Rattle.std.specs.Prelude.{◌≡◌, ◌∷◌, ◌≤◌, ◌<◌, length};
+ghost use Rattle.std.specs.Prelude.{◌≡◌, Ok, ◌∷◌, ◌≤◌, length};
 ghost use Rattle.rules.specs.Limits.{work_bytes, results_bytes, heap_objects};
-ghost use Rattle.rules.specs.Answers.{refusal_number, then};
+ghost use Rattle.rules.specs.Answers.{then};
 ghost use Rattle.rules.specs.Reading.{read_text};
 ghost use Rattle.rules.specs.Rules.{check_program};
 ghost use Rattle.rules.specs.Calls.{verdict_numbers, check_text};
-ghost use Rattle.rules.specs.Areas.{packed, words_bytes, check_call, run_call, trial_call, lean_call, bound_call, fill_call};
-ghost use Rattle.tables.specs.Numbers.{half_values};
+ghost use Rattle.rules.specs.Areas.{words_bytes, check_call, run_call, trial_call, lean_call, bound_call, fill_call};
 ghost use Rattle.tables.specs.Decode.{program_in};
 ghost use Rattle.tables.specs.Tables.{Tables};
-ghost use Rattle.reader.specs.Readings as Reader;
 ghost use Rattle.reader.specs.Readings.{framed_verdict};
-ghost use Rattle.checker.specs.Checked as Checker;
 ghost use Rattle.machine.specs.Runs.{main_values};
-ghost use Rattle.station.specs.Station.{numbers_in, Found, RunAs, unless_refused, share_run, CheckLeaves, RunLeaves, BoundLeaves, FillLeaves};
+ghost use Rattle.station.specs.Station.{unread, unchecked, numbers_found, Found, RunAs, unless_refused, share_run, CheckLeaves, RunLeaves, BoundLeaves, FillLeaves};
 
 use bounds::bound_found;
-use check_entailment::Answer;
-use checker::Verdict;
 pub use counts::count;
 use fills::fill_text;
 use leans::lean_found;
-use machine::Ran;
-use reader::{Reading, Refusal};
+use numbers::{pack, told};
 use rules::{Machine, Number};
 use tables::{Bytes, Layout};
 
-// A number of document 01's table, and the line that it goes with.
+// Why a call is refused.
+#[derive(Clone, Copy)]
+pub enum Refusal {
+    // the text is not read
+    Reading(reader::Refusal),
+    // it is not accepted
+    Unframed,
+    Checking(check_entailment::Refusal),
+    // it has no bound
+    Unbounded,
+    BoundPassed,
+    // no set fills it in
+    NotOneStar,
+    NoSetAccepted,
+}
+
+// A refusal, and the line that it goes with.
+#[derive(Clone, Copy)]
+pub struct Refused {
+    pub why: Refusal,
+    pub line: usize,
+}
+
+impl From<reader::RefusedLine> for Refused {
+    ghost from_gives = { λ e r. r ≡ unread e };
+
+    fn from(e: reader::RefusedLine) -> Refused {
+        Refused {
+            why: Refusal::Reading(e.why),
+            line: e.line,
+        }
+    }
+}
+
+impl From<checker::RefusedLine> for Refused {
+    ghost from_gives = { λ e r. r ≡ unchecked e };
+
+    fn from(e: checker::RefusedLine) -> Refused {
+        Refused {
+            why: Refusal::Checking(e.why),
+            line: e.line,
+        }
+    }
+}
+
+// What C is told: a number of document 01's table, and the line that it goes with.
 #[derive(Clone, Copy)]
 pub struct Reply {
     pub number: u32,
@@ -49,95 +89,51 @@ impl Reply {
     const WRONG_SHARES: u32 = Number::WRONG_SHARES * Number::FACTOR;
 }
 
-// NUMBERS
-
-fn reading_number(r: Refusal) -> u32
-    ensures { result ≡ refusal_number (Reader.refusal_of r) }
-{
-    match r {
-        Refusal::TextTooLong => Number::TEXT_TOO_LONG,
-        Refusal::BadByte => Number::BAD_BYTE,
-        Refusal::Malformed => Number::MALFORMED,
-        Refusal::LimitPassed => Number::LIMIT_PASSED,
-        Refusal::Undeclared => Number::UNDECLARED,
-        Refusal::WrongType => Number::WRONG_TYPE,
-        Refusal::TextEnds => Number::TEXT_ENDS,
-        Refusal::WrongTarget => Number::WRONG_TARGET,
-    }
-}
-
-fn checking_number(a: Answer) -> u32
-    ensures { result ≡ refusal_number (Checker.refusal_of a) }
-{
-    match a {
-        Answer::Unresolved => Number::UNRESOLVED,
-        Answer::NoPermission => Number::NO_PERMISSION,
-        Answer::NotShown => Number::NOT_SHOWN,
-        Answer::Full => Number::STATE_FULL,
-        // Done is no refusal, and a text that is read has no malformed row.
-        Answer::Done => Number::MALFORMED,
-        Answer::Malformed => Number::MALFORMED,
-    }
-}
-
-// number × 65,536 + line
-fn pack(f: Reply) -> u32
-    requires { (f.number < half_values) × (f.line < half_values) }
-    ensures { result ≡ packed f.number f.line }
-{
-    f.number * Number::FACTOR + (f.line as u32)
-}
-
 // The steps taken and main's twelve values. The value i is that of main's variable i + 1: `this` and the parameter come first.
 fn put_results(work: &[u8], results: &mut [u8], steps: u32)
     requires { (length work.now ≡ work_bytes) × (length results.old ≡ results_bytes) }
     ensures { results.new ≡ words_bytes (steps ∷ main_values work.now) }
 {
     tables::put_word(results, 0, steps);
-    let mut i = 1;
-    while i <= Machine::VALUES {
+    for i in 1..=Machine::VALUES {
         let v = tables::word_at(work, Layout::FRAMES + Bytes::WORD + i * Bytes::WORD);
         tables::put_word(results, i * Bytes::WORD, v);
-        i += 1;
     }
 }
 
-// CHECK
+// READING AND CHECK
 
-// Number 10, then the rules, over the tables of a text that is read; `unframed` is the first line that number 10 refuses, or 0.
-fn check_tables(work: &[u8], unframed: usize) -> Reply
+// Number 10, then the rules, over the tables of a text that is read; `unframed` is the first line that number 10 refuses, if any.
+fn check_tables(work: &[u8], unframed: Option<usize>) -> Result<(), Refused>
     requires { Tables work.now }
-    ensures { numbers_in result ≡ verdict_numbers (then (framed_verdict unframed) (λ u. check_program (program_in work.now))) }
+    ensures { numbers_found result ≡ verdict_numbers (then (framed_verdict unframed) (λ u. check_program (program_in work.now))) }
 {
-    if unframed != 0 {
-        return Reply {
-            number: Number::UNFRAMED,
-            line: unframed,
-        };
+    if let Some(line) = unframed {
+        return Err(Refused {
+            why: Refusal::Unframed,
+            line,
+        });
     }
-    let v = checker::check(work);
-    match v {
-        Verdict::Accepted => Reply { number: 0, line: 0 },
-        Verdict::Refused(why, line) => {
-            let number = checking_number(why);
-            Reply { number, line }
-        }
-    }
+    checker::check(work)?;
+    Ok(())
+}
+
+// Reads the text.
+fn read_text(text: &[u8], work: &mut [u8]) -> Result<(), Refused>
+    requires { length work.old ≡ work_bytes }
+    ensures { Found (verdict_numbers (read_text text.now)) text.now result work.new }
+{
+    reader::read(text, work)?;
+    Ok(())
 }
 
 // Reads and checks the text.
-fn check_text(text: &[u8], work: &mut [u8]) -> Reply
+fn check_text(text: &[u8], work: &mut [u8]) -> Result<(), Refused>
     requires { length work.old ≡ work_bytes }
     ensures { Found (check_text text.now) text.now result work.new }
 {
-    let r = reader::read(text, work);
-    match r {
-        Reading::Refused(why, line) => {
-            let number = reading_number(why);
-            Reply { number, line }
-        }
-        Reading::Read(unframed) => check_tables(work, unframed),
-    }
+    let unframed = reader::read(text, work)?;
+    check_tables(work, unframed)
 }
 
 // Is the text a script that keeps to its permissions? The number and line of document 01's table, as number × 65,536 + line.
@@ -147,7 +143,7 @@ pub fn check(text: &[u8], work: &mut [u8]) -> u32
     if work.len() != Machine::WORK_BYTES {
         return Reply::WRONG_LENGTH;
     }
-    let f = check_text(text, work);
+    let f = told(check_text(text, work));
     areas::clear(work);
     pack(f)
 }
@@ -161,20 +157,26 @@ fn run_tables(work: &mut [u8], steps: u32, share: u32, results: &mut [u8]) -> Re
 {
     let r = machine::run(work, steps, share, Machine::FIELDS_EACH as u32 * share);
     put_results(work, results, r.steps);
-    let ending = r.ending;
-    let number = machine::number_of(ending);
-    let line = r.line as usize;
-    Reply { number, line }
+    Reply {
+        number: machine::number_of(r.ending),
+        line: r.line as usize,
+    }
 }
 
 // Runs the tables, unless a refusal was found: then there are zeros in results.
-fn run_found(found: Reply, work: &mut [u8], steps: u32, share: u32, results: &mut [u8]) -> Reply
-    requires { (found.number ≡ 0 → Tables work.old) × (share ≤ heap_objects) × (length work.old ≡ work_bytes) × (length results.old ≡ results_bytes) }
+fn run_found(
+    found: Result<(), Refused>,
+    work: &mut [u8],
+    steps: u32,
+    share: u32,
+    results: &mut [u8],
+) -> Reply
+    requires { (found ≡ Ok tt → Tables work.old) × (share ≤ heap_objects) × (length work.old ≡ work_bytes) × (length results.old ≡ results_bytes) }
     ensures { RunAs (unless_refused found (share_run share (program_in work.old) steps)) result results.new work.new }
 {
-    if found.number != 0 {
+    if found.is_err() {
         areas::clear(results);
-        return found;
+        return told(found);
     }
     run_tables(work, steps, share, results)
 }
@@ -191,21 +193,6 @@ pub fn run(text: &[u8], work: &mut [u8], steps: u32, results: &mut [u8]) -> u32
     let f = run_found(found, work, steps, Machine::OBJECTS as u32, results);
     areas::clear(work);
     pack(f)
-}
-
-// Reads the text.
-fn read_text(text: &[u8], work: &mut [u8]) -> Reply
-    requires { length work.old ≡ work_bytes }
-    ensures { Found (verdict_numbers (read_text text.now)) text.now result work.new }
-{
-    let r = reader::read(text, work);
-    match r {
-        Reading::Refused(why, line) => {
-            let number = reading_number(why);
-            Reply { number, line }
-        }
-        Reading::Read(_) => Reply { number: 0, line: 0 },
-    }
 }
 
 // Runs main as `run` does, of each text that the reader takes, accepted or not.
@@ -248,7 +235,7 @@ pub fn bound(text: &[u8], work: &mut [u8], bounds: &mut [u8]) -> u32
         return Reply::WRONG_LENGTH;
     }
     let found = check_text(text, work);
-    let f = bound_found(found, work, bounds);
+    let f = told(bound_found(found, work, bounds));
     areas::clear(work);
     pack(f)
 }
@@ -263,7 +250,7 @@ pub fn fill(text: &[u8], work: &mut [u8], places: &mut [u8]) -> u32
     if !areas::fit(work, places, Machine::PLACES_BYTES) {
         return Reply::WRONG_LENGTH;
     }
-    let f = fill_text(text, work, places);
+    let f = told(fill_text(text, work, places));
     areas::clear(work);
     pack(f)
 }

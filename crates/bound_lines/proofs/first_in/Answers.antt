@@ -1,6 +1,6 @@
 use mathlib.Core.Path.{refl, sym, ap, ◌∙◌}
 use native.Mathlib.Omega.{arith}
-use Rattle.bound_lines.specs.declared.Place.TheVariants.{At}
+use Rattle.std.specs.Prelude.{Some}
 use Rattle.bound_lines.proofs.Firsts.{call-is-there, is-refused, is_last, is-passed}
 use Rattle.bound_lines.proofs.first_in.Goals as goal
 
@@ -20,17 +20,11 @@ line_at-requires c =
 
 pub returns-in-Repeats : goal.returns-in-Repeats
 returns-in-Repeats c =
-    ap At c.line_at.ensures.0 ∙ sym (is-refused _ c.requires.0 _ _ c.loop-row.invariant.0 _ c.line_at-line.ensures _ c.look.ensures c.in-Repeats.is) ∙ c.loop-row.invariant.1
+    ap Some c.line_at.ensures.0 ∙ sym (is-refused _ c.requires.0 _ _ c.loop-row.invariant.0 _ c.line_at-line.ensures _ c.look.ensures c.in-Repeats.is) ∙ c.loop-row.invariant.1
 
 pub returns-in-Ends : goal.returns-in-Ends
 returns-in-Ends c =
     sym (is_last _ c.requires.0 _ _ c.loop-row.invariant.0 _ c.line_at-line.ensures _ c.look.ensures c.in-Ends.is) ∙ c.loop-row.invariant.1
-
-pub overflow_add-row : goal.overflow_add-row
-overflow_add-row c = omega (arith, c.loop-row.invariant.0, c.requires.0.rows)
-
-pub loop-row-smaller : goal.loop-row-smaller
-loop-row-smaller c = omega (arith, c.loop-row.invariant.0)
 
 pub loop-row-preserved : goal.loop-row-preserved
 loop-row-preserved c =

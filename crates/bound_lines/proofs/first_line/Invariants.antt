@@ -1,13 +1,9 @@
 use mathlib.Core.Path.{◌≡◌}
-use Prim.Native.Nat.{◌-◌, ◌≤◌}
 use Rattle.rules.specs.Bounds.{first_repeating}
-use Rattle.tables.specs.Decode.{method_count, program_in}
+use Rattle.tables.specs.Decode.{program_in}
 use Rattle.bound_lines.specs.Lines.{place_of}
 use Rattle.bound_lines.proofs.Firsts.{place_from}
 use Rattle.bound_lines.proofs.first_line.Given as goal
 
 abbrev pub invariant-loop-a : goal.invariant-loop-a
-invariant-loop-a l = (place_from l.work l.a ≡ place_of (first_repeating (program_in l.work))) × (l.a ≤ method_count l.work)
-
-abbrev pub decreases-loop-a : goal.decreases-loop-a
-decreases-loop-a l = method_count l.work - l.a
+invariant-loop-a l = (place_from l.work l.a ≡ place_of (first_repeating (program_in l.work)))

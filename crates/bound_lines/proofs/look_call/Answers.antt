@@ -2,14 +2,14 @@ use native.Mathlib.Omega.{arith}
 use Rattle.bound_lines.proofs.Firsts.{main-call, call_back, call-away}
 use Rattle.bound_lines.proofs.look_call.Goals as goal
 
-pub bounds-has-a : goal.bounds-has-a
-bounds-has-a c = omega (arith, (rw c.in-Method.is at c.requires.1.0))
+pub bounds-q-a : goal.bounds-q-a
+bounds-q-a c = omega (arith, (rw c.in-Some.is at c.requires.1.0))
 
-pub returns-then-has-a : goal.returns-then-has-a
-returns-then-has-a c = rw c.in-Method.is (call_back _ _ _ _ (c.reach-q.ensures _) c.if-has-a.true)
+pub returns-then-q-a : goal.returns-then-q-a
+returns-then-q-a c = rw c.in-Some.is (call_back _ _ _ _ (c.reach-q.ensures _) c.if-q-a.true)
 
-pub returns-in-Main : goal.returns-in-Main
-returns-in-Main c = rw c.in-Main.is (main-call _ _)
+pub returns-in_default : goal.returns-in_default
+returns-in_default c = rw c.in_default.is (main-call _ _)
 
-pub returns-else-has-a : goal.returns-else-has-a
-returns-else-has-a c = rw c.in-Method.is (call-away _ _ _ _ (c.reach-q.ensures _) c.if-has-a.false)
+pub returns : goal.returns
+returns c = rw c.in-Some.is (call-away _ _ _ _ (c.reach-q.ensures _) c.if-q-a.false)

@@ -1,27 +1,27 @@
 use mathlib.Core.Path.{refl}
+use mathlib.Core.Logic.{⊎_elim}
 use native.Mathlib.Omega.{arith}
 use Rattle.bound_walk.proofs.Replies.{may-scan-main, main-waits, main-loops, frames_small, bounded-answer, passed-answer}
 use Rattle.bound_walk.proofs.reckon_main.Goals as goal
 
 pub scan-s-requires : goal.scan-s-requires
-scan-s-requires c = (c.requires.0, may-scan-main _ c.requires.0 _ c.requires.1 _ c.main_first-main.ensures.0)
+scan-s-requires c = (c.requires.0, may-scan-main _ c.requires.0 _ c.requires.1 _ c.main_first.ensures.0)
 
 pub returns-then-b : goal.returns-then-b
 returns-then-b c =
-    passed-answer _ c.requires.0 _ c.requires.1 _ c.main_first-main.ensures.0 _ c.scan-s.ensures c.in-End.is c.if-b.true
+    passed-answer _ c.requires.0 _ c.requires.1 _ c.main_first.ensures.0 _ c.scan-s.ensures c.in-End.is c.if-b.true
 
 pub overflow_add-result : goal.overflow_add-result
 overflow_add-result c =
-    omega (arith, frames_small _ c.requires.0 _ c.requires.1 _ c.main_first-main.ensures.0 _ c.scan-s.ensures c.in-End.is)
+    omega (arith, frames_small _ c.requires.0 _ c.requires.1 _ c.main_first.ensures.0 _ c.scan-s.ensures c.in-End.is)
 
 pub returns-in-Wait : goal.returns-in-Wait
 returns-in-Wait c =
-    main-waits _ c.requires.0 _ c.requires.1 _ c.main_first-main.ensures.0 _ c.scan-s.ensures _ c.in-Wait.is
-
-pub returns-in-Loop : goal.returns-in-Loop
-returns-in-Loop c =
-    main-loops _ c.requires.0 _ c.requires.1 _ c.main_first-main.ensures.0 _ c.scan-s.ensures c.in-Loop.is
+    ⊎_elim
+    (λ (_, e). main-waits _ c.requires.0 _ c.requires.1 _ c.main_first.ensures.0 _ c.scan-s.ensures _ e)
+    (λ e. main-loops _ c.requires.0 _ c.requires.1 _ c.main_first.ensures.0 _ c.scan-s.ensures e)
+    c.in-Wait.is
 
 pub returns-else-b : goal.returns-else-b
 returns-else-b c =
-    bounded-answer _ c.requires.0 _ c.requires.1 _ c.main_first-main.ensures.0 _ c.scan-s.ensures c.in-End.is c.if-b.false _ refl
+    bounded-answer _ c.requires.0 _ c.requires.1 _ c.main_first.ensures.0 _ c.scan-s.ensures c.in-End.is c.if-b.false _ refl

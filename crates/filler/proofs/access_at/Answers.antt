@@ -1,10 +1,5 @@
-use native.Mathlib.Omega.{arith}
 use Rattle.filler.proofs.Choosing.{of-this, of-parameter, this-small, parameter-small}
 use Rattle.filler.proofs.access_at.Goals as goal
-
-pub overflow_sub-p : goal.overflow_sub-p
-overflow_sub-p c =
-    omega (arith, c.requires.1)
 
 pub field_name_at-requires : goal.field_name_at-requires
 field_name_at-requires c =
@@ -13,14 +8,6 @@ field_name_at-requires c =
 pub returns-then-p-s : goal.returns-then-p-s
 returns-then-p-s c =
     of-this _ _ c.requires.0 _ c.requires.1 _ c.if-p-s.true c.field_name_at.ensures.0
-
-pub overflow_sub-p-2 : goal.overflow_sub-p-2
-overflow_sub-p-2 c =
-    omega (arith, c.if-p-s.false)
-
-pub overflow_sub-p-3 : goal.overflow_sub-p-3
-overflow_sub-p-3 c =
-    omega (arith, c.if-p-s.false)
 
 pub field_name_at-requires-2 : goal.field_name_at-requires-2
 field_name_at-requires-2 c =

@@ -1,18 +1,10 @@
 use mathlib.Core.Path.{sym, ap, ◌∙◌}
 use native.Mathlib.Omega.{arith}
 use lib.ListN.{length}
-use Rattle.filler.proofs.Choosing.{class-there, class-few, class-small, no-class}
+use Rattle.filler.proofs.Choosing.{class-there, class-few, no-class}
 use Rattle.filler.proofs.fields_of.Goals as goal
 
 -- `filler::fields_of` meets its contract. Assumes nothing.
-pub byte_at-requires : goal.byte_at-requires
-byte_at-requires c =
-    omega (arith, c.requires.size)
-
-pub field_count_at-requires : goal.field_count_at-requires
-field_count_at-requires c =
-    (c.requires.size, class-small c.args.work.now c.requires _ _ c.byte_at.ensures.0 c.if-c-byte_at.true)
-
 pub returns-then-c-byte_at : goal.returns-then-c-byte_at
 returns-then-c-byte_at c =
     (c.field_count_at.ensures.0 ∙ sym (class-there c.args.work.now c.requires _ _ c.byte_at.ensures.0 c.if-c-byte_at.true), class-few c.args.work.now c.requires _ _ _ c.byte_at.ensures.0 c.if-c-byte_at.true c.field_count_at.ensures.0)

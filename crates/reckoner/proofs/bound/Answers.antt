@@ -1,14 +1,16 @@
-use Rattle.reckoner.proofs.Reckoned.{is-given, is-passed, at-line, not-nowhere}
+use Rattle.reckoner.proofs.Reckoned.{is-given, is-passed, at-line, there}
 use Rattle.reckoner.proofs.bound.Goals as goal
 
-pub returns-in_default : goal.returns-in_default
-returns-in_default c = absurd (not-nowhere _ _ c.reckon-a.ensures c.in-Unbounded.is _ c.first_line.ensures c.in_default.is)
+pub returns-in-Ok : goal.returns-in-Ok
+returns-in-Ok c = is-given _ _ c.reckon.ensures _ c.in-Ok.is
 
-pub returns-in-Bounded : goal.returns-in-Bounded
-returns-in-Bounded c = is-given _ _ c.reckon-a.ensures _ _ c.in-Bounded.is
+pub returns-in-Err-Passed : goal.returns-in-Err-Passed
+returns-in-Err-Passed c = is-passed _ _ c.reckon.ensures (rw c.in-Err-Passed.field-0-is at c.in-Err-Passed.is)
 
-pub returns-in-Passed : goal.returns-in-Passed
-returns-in-Passed c = is-passed _ _ c.reckon-a.ensures c.in-Passed.is
+pub unwrap-l-requires : goal.unwrap-l-requires
+unwrap-l-requires c =
+    there _ _ c.reckon.ensures (rw c.in-Err-Unbounded.field-0-is at c.in-Err-Unbounded.is) _ c.first_line.ensures
 
-pub returns-in-At : goal.returns-in-At
-returns-in-At c = at-line _ _ c.reckon-a.ensures c.in-Unbounded.is _ c.first_line.ensures _ c.in-At.is
+pub returns-in-Err-Unbounded : goal.returns-in-Err-Unbounded
+returns-in-Err-Unbounded c =
+    at-line _ _ c.reckon.ensures (rw c.in-Err-Unbounded.field-0-is at c.in-Err-Unbounded.is) _ c.first_line.ensures _ c.unwrap-l.ensures

@@ -1,43 +1,32 @@
+use Prim.Native.Nat.{◌<◌}
 use native.Mathlib.Omega.{arith}
 use Rattle.printer.proofs.Writes.{writes-none, writes-on, writes_as}
 use Rattle.small_list.specs.Small.{body}
 use Rattle.small.specs.Listing.{places_in}
-use Rattle.small.proofs.Texts.{place-bounds, places_count, place-known, part-short, body_more, body-whole}
+use Rattle.small.proofs.Texts.{place-bounds, places_count, digits_count, place-known, part-short, body_more, body-whole}
 use Rattle.small.proofs.put_body.Goals as goal
 
-pub loop-i-init : goal.loop-i-init
+pub loop-d-init : goal.loop-d-init
 unfolding body
-loop-i-init c =
-    (omega arith, writes-none _ _ (omega (arith, c.requires.1)))
+loop-d-init c = writes-none _ _ (omega (arith, c.requires.1))
 
-pub bounds-digits-i : goal.bounds-digits-i
-bounds-digits-i c =
-    omega (arith, c.loop-i-test.true, c.requires.0.few, c.requires.0.size)
-
-pub overflow_sub-digits : goal.overflow_sub-digits
-overflow_sub-digits c =
-    omega (arith, (place-bounds _ (place-known c.loop-i.i c.requires.0 c.loop-i-test.true)).0)
+pub overflow_sub-d : goal.overflow_sub-d
+overflow_sub-d c =
+    let h : c.loop-d.d-index < c.args.m.count = omega (arith, digits_count c.requires.0) in
+    omega (arith, (place-bounds _ (place-known c.loop-d.d-index c.requires.0 h)).0)
 
 pub put_statement-e-requires : goal.put_statement-e-requires
 put_statement-e-requires c =
-    (place-known c.loop-i.i c.requires.0 c.loop-i-test.true, omega (arith, c.requires.1, c.loop-i-test.true, c.requires.0.few, c.loop-i.invariant.1.end, c.loop-i.invariant.1.size, part-short (places_in c.args.m) c.loop-i.i (omega (arith, c.loop-i-test.true, places_count c.requires.0))))
+    let h : c.loop-d.d-index < c.args.m.count = omega (arith, digits_count c.requires.0) in
+    (place-known c.loop-d.d-index c.requires.0 h, omega (arith, h, c.requires.0.few, c.loop-d.invariant.end, c.loop-d.invariant.size, part-short (places_in c.args.m) c.loop-d.d-index (omega (arith, h, places_count c.requires.0))))
 
-pub overflow_add-i : goal.overflow_add-i
-overflow_add-i c =
-    omega (arith, c.loop-i-test.true, c.requires.0.few)
-
-pub loop-i-smaller : goal.loop-i-smaller
-loop-i-smaller c =
-    omega (arith, c.loop-i-test.true)
-
-pub loop-i-preserved : goal.loop-i-preserved
-loop-i-preserved c =
-    (omega (arith, c.loop-i-test.true), writes_as (writes-on c.loop-i.invariant.1 c.put_statement-e.ensures) (body_more c.loop-i.i c.requires.0 c.loop-i-test.true))
+pub loop-d-preserved : goal.loop-d-preserved
+loop-d-preserved c =
+    writes_as (writes-on c.loop-d.invariant c.put_statement-e.ensures) (body_more c.loop-d.d-index c.requires.0 (omega (arith, digits_count c.requires.0)))
 
 pub shape_of-text : goal.shape_of-text
-shape_of-text c =
-    c.loop-i.invariant.1.size
+shape_of-text c = c.loop-d.invariant.size
 
 pub returns : goal.returns
 returns c =
-    writes_as c.loop-i.invariant.1 (body-whole c.loop-i.i c.requires.0 c.loop-i-test.false)
+    writes_as c.loop-d.invariant (body-whole c.loop-d.d-index c.requires.0 (omega (arith, digits_count c.requires.0)))

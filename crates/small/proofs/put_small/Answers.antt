@@ -7,25 +7,19 @@ use Rattle.small.proofs.Texts.{places_count}
 use Rattle.small.proofs.put_small.Goals as goal
 
 pub loop-count-init : goal.loop-count-init
-loop-count-init c = (omega arith, lists-none _)
+loop-count-init c = lists-none _
 
 pub put_mains-e-requires : goal.put_mains-e-requires
 put_mains-e-requires c =
-    let g = room-longer (places_in c.none-m.result) c.loop-count.count c.none-m.ensures.0 c.loop-count-test.true c.loop-count.invariant.1 in
-    (c.none-m.ensures.1, omega (arith, c.loop-count-test.true, places_count c.none-m.ensures.1, ap length c.none-m.ensures.0), omega (arith, g, c.loop-count.invariant.1.size, c.requires))
-
-pub overflow_add-count : goal.overflow_add-count
-overflow_add-count c = omega (arith, c.loop-count-test.true)
-
-pub loop-count-smaller : goal.loop-count-smaller
-loop-count-smaller c = omega (arith, c.loop-count-test.true)
+    let g = room-longer (places_in c.none-m.result) c.loop-count.count c.none-m.ensures.0 (omega arith) c.loop-count.invariant in
+    (c.none-m.ensures.1, omega (arith, places_count c.none-m.ensures.1, ap length c.none-m.ensures.0), omega (arith, g, c.loop-count.invariant.size, c.requires))
 
 pub loop-count-preserved : goal.loop-count-preserved
 loop-count-preserved c =
-    (omega (arith, c.loop-count-test.true), lists-longer (places_in c.none-m.result) c.loop-count.count c.none-m.ensures.0 c.loop-count.invariant.1 c.put_mains-e.ensures)
+    lists-longer (places_in c.none-m.result) c.loop-count.count c.none-m.ensures.0 c.loop-count.invariant c.put_mains-e.ensures
 
 pub shape_of-out : goal.shape_of-out
-shape_of-out c = c.loop-count.invariant.1.size
+shape_of-out c = c.loop-count.invariant.size
 
 pub returns : goal.returns
-returns c = all_listed (omega (arith, c.loop-count.invariant.0, c.loop-count-test.false)) c.loop-count.invariant.1
+returns c = all_listed (omega arith) c.loop-count.invariant

@@ -1,11 +1,7 @@
-use Prim.Native.Nat.{◌-◌, ◌≤◌}
 use Rattle.small.specs.Listing.{Lists}
 use Rattle.small.proofs.Lines.{below}
 use Rattle.small.proofs.put_small.Given as goal
 
 -- `small::put_small` meets its contract. Assumes nothing.
 abbrev pub invariant-loop-count : goal.invariant-loop-count
-invariant-loop-count l = (l.count ≤ 4) × Lists (below l.count) l.initial.out 0 l.out l.e
-
-abbrev pub decreases-loop-count : goal.decreases-loop-count
-decreases-loop-count l = 4 - l.count
+invariant-loop-count l = Lists (below l.count) l.initial.out 0 l.out l.e

@@ -3,8 +3,8 @@ use Rattle.small.proofs.Texts.{place-bounds, adds}
 use Rattle.small.proofs.with_place.Goals as goal
 
 -- `small::with_place` meets its contract. Assumes nothing.
-pub overflow_add-digits : goal.overflow_add-digits
-overflow_add-digits c =
+pub overflow_add-m : goal.overflow_add-m
+overflow_add-m c =
     omega (arith, (place-bounds _ c.requires.2).1)
 
 pub returns : goal.returns

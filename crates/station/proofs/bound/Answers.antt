@@ -9,14 +9,14 @@ returns-then-not-fit c = wrong-bound _ _ _ (sym c.fit.ensures ∙ c.if-not-fit.t
 pub check_text-found-requires : goal.check_text-found-requires
 check_text-found-requires c = (fit-lengths _ _ (sym c.fit.ensures ∙ c.if-not-fit.false)).0
 
-pub bound_found-f-requires : goal.bound_found-f-requires
-bound_found-f-requires c =
+pub bound_found-requires : goal.bound_found-requires
+bound_found-requires c =
     (λ z. (c.check_text-found.ensures.taken z).1.tables, (fit-lengths _ _ (sym c.fit.ensures ∙ c.if-not-fit.false)).1)
 
 pub pack-requires : goal.pack-requires
 pack-requires c =
-    bound-fits _ _ (c.bound_found-f.ensures.0 ∙ ap numbers_of (found-bound _ c.check_text-found.ensures))
+    bound-fits _ _ (c.told-f.ensures ∙ (c.bound_found.ensures.0 ∙ ap numbers_of (found-bound _ c.check_text-found.ensures)))
 
 pub returns : goal.returns
 returns c =
-    right-bound _ _ _ (sym c.fit.ensures ∙ c.if-not-fit.false) (found-bound _ c.check_text-found.ensures) _ c.bound_found-f.ensures.0 c.bound_found-f.ensures.1 c.check_text-found.ensures.size c.clear.ensures c.pack.ensures
+    right-bound _ _ _ (sym c.fit.ensures ∙ c.if-not-fit.false) (found-bound _ c.check_text-found.ensures) _ (c.told-f.ensures ∙ c.bound_found.ensures.0) c.bound_found.ensures.1 c.check_text-found.ensures.size c.clear.ensures c.pack.ensures

@@ -7,16 +7,16 @@ use Rattle.station.proofs.check.Goals as goal
 pub returns-then-work-ne-WORK_BYTES : goal.returns-then-work-ne-WORK_BYTES
 returns-then-work-ne-WORK_BYTES c = wrong-check _ _ c.if-work-ne-WORK_BYTES.true
 
-pub check_text-f-requires : goal.check_text-f-requires
-check_text-f-requires c = c.if-work-ne-WORK_BYTES.false
+pub check_text-requires : goal.check_text-requires
+check_text-requires c = c.if-work-ne-WORK_BYTES.false
 
 pub pack-requires : goal.pack-requires
-pack-requires c = fits-as c.check_text-f.ensures.numbers (check-fits _)
+pack-requires c = fits-as (c.told-f.ensures ∙ c.check_text.ensures.numbers) (check-fits _)
 
 pub shape_of-work : goal.shape_of-work
 shape_of-work c =
-    c.clear.auto.area ∙ (c.check_text-f.ensures.size ∙ sym c.if-work-ne-WORK_BYTES.false)
+    c.clear.auto.area ∙ (c.check_text.ensures.size ∙ sym c.if-work-ne-WORK_BYTES.false)
 
 pub returns : goal.returns
 returns c =
-    right-check _ _ c.if-work-ne-WORK_BYTES.false _ c.check_text-f.ensures.numbers c.check_text-f.ensures.size c.clear.ensures c.pack.ensures
+    right-check _ _ c.if-work-ne-WORK_BYTES.false _ (c.told-f.ensures ∙ c.check_text.ensures.numbers) c.check_text.ensures.size c.clear.ensures c.pack.ensures

@@ -6,14 +6,14 @@ use Rattle.station.proofs.fill.Goals as goal
 pub returns-then-not-fit : goal.returns-then-not-fit
 returns-then-not-fit c = wrong-fill _ _ _ (sym c.fit.ensures ∙ c.if-not-fit.true)
 
-pub fill_text-f-requires : goal.fill_text-f-requires
-fill_text-f-requires c =
+pub fill_text-requires : goal.fill_text-requires
+fill_text-requires c =
     fit-lengths _ _ (sym c.fit.ensures ∙ c.if-not-fit.false)
 
 pub pack-requires : goal.pack-requires
 pack-requires c =
-    fill-fits _ _ c.fill_text-f.ensures.0.0
+    fill-fits _ _ (c.told-f.ensures ∙ c.fill_text.ensures.0.0)
 
 pub returns : goal.returns
 returns c =
-    right-fill _ _ _ (sym c.fit.ensures ∙ c.if-not-fit.false) _ c.fill_text-f.ensures.0 c.fill_text-f.ensures.1 c.clear.ensures c.pack.ensures
+    right-fill _ _ _ (sym c.fit.ensures ∙ c.if-not-fit.false) _ _ c.fill_text.ensures.0 c.told-f.ensures c.fill_text.ensures.1 c.clear.ensures c.pack.ensures

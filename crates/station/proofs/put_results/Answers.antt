@@ -10,48 +10,27 @@ put_word-requires c = omega (arith, c.requires.1)
 
 pub loop-i-init : goal.loop-i-init
 loop-i-init c =
-    ((omega arith, omega arith), (refl, word_first c.args.results.now _ _ (main_values c.args.work.now) c.put_word.ensures (omega (arith, c.requires.1))))
-
-pub overflow_add-word_at : goal.overflow_add-word_at
-overflow_add-word_at c = omega arith
-
-pub overflow_mul-i : goal.overflow_mul-i
-overflow_mul-i c = omega arith
-
-pub overflow_add-i : goal.overflow_add-i
-overflow_add-i c = omega arith
+    (refl, word_first c.args.results.now _ _ (main_values c.args.work.now) c.put_word.ensures (omega (arith, c.requires.1)))
 
 pub word_at-v-requires : goal.word_at-v-requires
-word_at-v-requires c = omega (arith, c.requires.0, c.loop-i.invariant.0)
-
-pub overflow_mul-i-in-loop-i : goal.overflow_mul-i-in-loop-i
-overflow_mul-i-in-loop-i c = omega arith
+word_at-v-requires c = omega (arith, c.requires.0)
 
 pub put_word-requires-in-loop-i : goal.put_word-requires-in-loop-i
 put_word-requires-in-loop-i c =
-    omega (arith, c.requires.1, c.loop-i.invariant.1.0, c.put_word.auto.w, c.loop-i.invariant.0)
-
-pub overflow_add-i-in-loop-i : goal.overflow_add-i-in-loop-i
-overflow_add-i-in-loop-i c = omega arith
-
-pub loop-i-smaller : goal.loop-i-smaller
-loop-i-smaller c = omega arith
+    omega (arith, c.requires.1, c.loop-i.invariant.0, c.put_word.auto.w)
 
 pub loop-i-preserved : goal.loop-i-preserved
 loop-i-preserved c =
     let n = values_length c.args.work.now c.args.steps in (
-      (omega arith, omega arith),
-      (
-        c.put_word-in-loop-i.auto.w ∙ c.loop-i.invariant.1.0,
-        c.put_word-in-loop-i.ensures ∙ rw c.loop-i.invariant.1.1 (word_more _ _ c.loop-i.i _ (omega (arith, n)) (value_is c.args.work.now c.args.steps c.loop-i.i c.loop-i.invariant.0.0 (omega arith) ∙ sym c.word_at-v.ensures)
-            (c.put_word.auto.w ∙ (c.requires.1 ∙ ap (λ m. m * 4) (sym n)))),
-      ),
+      c.put_word-in-loop-i.auto.w ∙ c.loop-i.invariant.0,
+      c.put_word-in-loop-i.ensures ∙ rw c.loop-i.invariant.1 (word_more _ _ c.loop-i.i _ (omega (arith, n)) (value_is c.args.work.now c.args.steps c.loop-i.i (omega arith) (omega arith) ∙ sym c.word_at-v.ensures)
+          (c.put_word.auto.w ∙ (c.requires.1 ∙ ap (λ m. m * 4) (sym n)))),
     )
 
 pub shape_of-results : goal.shape_of-results
-shape_of-results c = c.loop-i.invariant.1.0 ∙ c.put_word.auto.w
+shape_of-results c = c.loop-i.invariant.0 ∙ c.put_word.auto.w
 
 pub returns : goal.returns
 returns c =
-    let n = values_length c.args.work.now c.args.steps in c.loop-i.invariant.1.1 ∙ words-all _ _ c.loop-i.i (omega (arith, n, c.loop-i-test.false))
+    let n = values_length c.args.work.now c.args.steps in c.loop-i.invariant.1 ∙ words-all _ _ c.loop-i.i (omega (arith, n))
     (c.put_word.auto.w ∙ (c.requires.1 ∙ ap (λ m. m * 4) (sym n)))

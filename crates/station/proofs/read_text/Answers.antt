@@ -1,15 +1,11 @@
-use Rattle.station.proofs.Texts.{reading-refused, reading-read, none-taken, refused-read, taken-read}
+use Rattle.std.proofs.lemmas.Result.{err_from_is_err_and}
+use Rattle.station.proofs.Texts.{unread-found, read-found}
 use Rattle.station.proofs.read_text.Goals as goal
 
-pub returns-in-Refused : goal.returns-in-Refused
-returns-in-Refused c =
-    record {
-      numbers = refused-read _ c.reading_number-number.ensures (reading-refused _ _ _ c.read-r.ensures.0 _ _ c.in-Refused.is);
-      taken = none-taken _ c.reading_number-number.ensures;
-      size = c.read-r.ensures.1;
-    }
+pub returns-in_err-read : goal.returns-in_err-read
+returns-in_err-read c =
+    let p = err_from_is_err_and c.from_residual.result c.from_residual.ensures.1 in
+    rw (p.1, p.2) (unread-found c.in_err-read.ensures.1 _ c.in_err-read.ensures.0)
 
-pub returns-in-Read : goal.returns-in-Read
-returns-in-Read c =
-    let x = reading-read _ _ _ c.read-r.ensures.0 _ c.in-Read.is in
-    record { numbers = taken-read x; taken = λ _. (_, x); size = c.read-r.ensures.1 }
+pub returns : goal.returns
+returns c = read-found c.in_ok-read.ensures.1 _ c.in_ok-read.ensures.0

@@ -23,4 +23,4 @@ shape_of-results c = c.put_results.auto.results
 pub returns : goal.returns
 unfolding room_of
 returns c =
-    (ran-numbers c.args.share c.run-r.ensures c.number_of-number.ensures, c.put_results.ensures ∙ ran-bytes c.args.share c.run-r.ensures, c.run-r.ensures.tables.size ∙ c.requires.0.0.size)
+    (ran-numbers c.args.share c.run-r.ensures c.number_of.ensures, c.put_results.ensures ∙ ran-bytes c.args.share c.run-r.ensures, c.run-r.ensures.tables.size ∙ c.requires.0.0.size)

@@ -2,17 +2,14 @@ use native.Mathlib.Omega.{arith}
 use Rattle.bound_lines.proofs.Seeks.{small_count, search-begun, search-next, search-done}
 use Rattle.bound_lines.proofs.queue.reach.Goals as goal
 
-pub begin-q-requires : goal.begin-q-requires
-begin-q-requires c = omega (arith, c.requires.0.methods, c.requires.1)
-
 pub loop-head-init : goal.loop-head-init
 loop-head-init c = (c.requires.0, search-begun _ c.requires.0 _ _ c.begin-q.ensures c.requires.1)
 
-pub offset_bounds-order-head : goal.offset_bounds-order-head
-offset_bounds-order-head c = omega (arith, small_count _ c.loop-head.invariant.0 _ _ c.loop-head.invariant.1.seeking, c.loop-head-test.true)
+pub offset_bounds-q-head : goal.offset_bounds-q-head
+offset_bounds-q-head c = omega (arith, small_count _ c.loop-head.invariant.0 _ _ c.loop-head.invariant.1.seeking, c.loop-head-test.true)
 
-pub bounds-order-head : goal.bounds-order-head
-bounds-order-head c =
+pub bounds-q-head : goal.bounds-q-head
+bounds-q-head c =
     omega (arith, small_count _ c.loop-head.invariant.0 _ _ c.loop-head.invariant.1.seeking, c.loop-head-test.true)
 
 pub gather-q-requires : goal.gather-q-requires

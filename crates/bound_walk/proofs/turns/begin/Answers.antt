@@ -4,4 +4,4 @@ use Rattle.bound_walk.proofs.turns.begin.Goals as goal
 
 pub returns : goal.returns
 unfolding begun
-returns c = rw c.first_row_at-first.ensures.0 refl
+returns c = rw c.first_row_at.ensures.0 refl

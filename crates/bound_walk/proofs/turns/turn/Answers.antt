@@ -10,12 +10,12 @@ pub leave-requires : goal.leave-requires
 leave-requires c =
     may-leave _ c.requires.0 _ c.requires.1.0 c.requires.1.1 _ c.scan-s.ensures c.in-End.is
 
-pub offset_bounds-marks-c : goal.offset_bounds-marks-c
-offset_bounds-marks-c c =
+pub offset_bounds-r-c : goal.offset_bounds-r-c
+offset_bounds-r-c c =
     omega (arith, (may-wait _ c.requires.0 _ c.requires.1.0 c.requires.1.1 _ c.scan-s.ensures _ c.in-Wait.is).1)
 
-pub bounds-marks-c : goal.bounds-marks-c
-bounds-marks-c c =
+pub bounds-r-c : goal.bounds-r-c
+bounds-r-c c =
     (may-wait _ c.requires.0 _ c.requires.1.0 c.requires.1.1 _ c.scan-s.ensures _ c.in-Wait.is).1
 
 pub wait-requires : goal.wait-requires
@@ -28,7 +28,7 @@ returns-in-End c =
 
 pub returns-in-Loop : goal.returns-in-Loop
 returns-in-Loop c =
-    turn-stops _ c.requires.0 _ c.requires.1.0 c.requires.1.1 _ c.scan-s.ensures _ c.in-Loop.is c.stop.ensures
+    turn-stops _ c.requires.0 _ c.requires.1.0 c.requires.1.1 _ c.scan-s.ensures c.in-Loop.is
 
 pub returns-in-Wait : goal.returns-in-Wait
 returns-in-Wait c =

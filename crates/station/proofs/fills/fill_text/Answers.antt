@@ -1,22 +1,15 @@
-use Rattle.station.proofs.Filling.{starred-refused, starred-missing, starred-second, starred-one, no-places, text-refused, text-not-one, text-star}
+use Rattle.std.proofs.lemmas.Result.{err_from_is_err_and}
+use Rattle.station.proofs.Filling.{unstarred, starred, no-places, text-star}
 use Rattle.station.proofs.fills.fill_text.Goals as goal
 
 pub fill_star-requires : goal.fill_star-requires
 fill_star-requires c =
-    let x = starred-one _ _ c.read-s.ensures.0 c.in-One.is in (x.tables, x.within, x.spare, no-places _ c.requires.1 c.clear.ensures)
+    let x = starred _ c.in_ok-star.ensures.0 in (x.tables, x.within, x.spare, no-places _ c.requires.1 c.clear.ensures)
 
-pub returns-in-Refused : goal.returns-in-Refused
-returns-in-Refused c =
-    (text-refused _ (no-places _ c.requires.1 c.clear.ensures) (starred-refused _ _ c.read-s.ensures.0 c.in-Refused.is) c.reading_number-number.ensures, c.read-s.ensures.1)
+pub returns-in_err-star : goal.returns-in_err-star
+returns-in_err-star c =
+    let p = err_from_is_err_and c.from_residual.result c.from_residual.ensures.1 in
+    rw (p.1, p.2) (unstarred _ _ _ c.in_err-star.ensures.0 (no-places _ c.requires.1 c.clear.ensures), c.in_err-star.ensures.1)
 
-pub returns-in-Missing : goal.returns-in-Missing
-returns-in-Missing c =
-    (text-not-one _ (no-places _ c.requires.1 c.clear.ensures) (starred-missing _ _ c.read-s.ensures.0 c.in-Missing.is), c.read-s.ensures.1)
-
-pub returns-in-Second : goal.returns-in-Second
-returns-in-Second c =
-    (text-not-one _ (no-places _ c.requires.1 c.clear.ensures) (starred-second _ _ c.read-s.ensures.0 c.in-Second.is), c.read-s.ensures.1)
-
-pub returns-in-One : goal.returns-in-One
-returns-in-One c =
-    (text-star (starred-one _ _ c.read-s.ensures.0 c.in-One.is) c.fill_star.ensures.0, c.fill_star.ensures.1)
+pub returns : goal.returns
+returns c = (text-star (starred _ c.in_ok-star.ensures.0) _ c.fill_star.ensures.0, c.fill_star.ensures.1)

@@ -14,4 +14,4 @@ shape_of-results c = c.put_results.auto.results
 
 pub returns : goal.returns
 returns c =
-    (lean-numbers c.run-r.ensures c.number_of-number.ensures, c.put_results.ensures ∙ lean-bytes c.run-r.ensures, c.run-r.ensures.tables.size ∙ c.requires.0.0.size)
+    (lean-numbers c.run-r.ensures c.number_of.ensures, c.put_results.ensures ∙ lean-bytes c.run-r.ensures, c.run-r.ensures.tables.size ∙ c.requires.0.0.size)
