@@ -37,8 +37,8 @@ impl File {
     }
 }
 
-/// Names that stand for themselves: the program's entry, and the umbrella over a file's definitions.
-const FREE: [&str; 2] = ["main", "opened"];
+/// Names that stand for themselves: the program's entry, the umbrella over a file's definitions, and the conversion that `?` calls.
+const FREE: [&str; 3] = ["main", "opened", "from"];
 
 /// The declarations that no file uses and no document names in backquotes. Answers are left out: each serves its function.
 pub fn unused_declarations(files: &[File], documents: &str) -> Vec<String> {

@@ -77,7 +77,7 @@ const READ: [&str; 15] = [
 /// Folders below them that hold received or generated files.
 const LEFT_OUT: [&str; 4] = ["papers", "target", "node_modules", "__pycache__"];
 
-/// The texts that people read: path from the root, and text. Files that are not text are skipped.
+/// The texts that people read: path from the root, and text. Files that are not text are skipped, and so are patches, which quote the sources.
 pub fn texts_for_people() -> Vec<(String, String)> {
     let mut texts = Vec::new();
     for place in READ {
@@ -92,6 +92,7 @@ fn gather(path: &Path, texts: &mut Vec<(String, String)>) {
         if !name.is_some_and(|name| LEFT_OUT.contains(&name.as_ref())) {
             entries(path).iter().for_each(|entry| gather(entry, texts));
         }
+    } else if path.extension().is_some_and(|end| end == "patch") {
     } else if let Ok(text) = fs::read_to_string(path) {
         let place = path.strip_prefix(root()).unwrap_or(path);
         texts.push((place.to_string_lossy().into_owned(), text));
