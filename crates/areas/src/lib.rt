@@ -43,7 +43,8 @@ fn fit_together(shares: &[u32]) -> bool
     true
 }
 
-// Are there so many scripts, and do their shares fit into the heap?
+// Are there so many scripts, and do their shares fit into the heap? The shares stay a slice: docs/ARCHITECTURE.md names this function, and an array
+// would be a narrower type than it took.
 pub fn shares_fit(scripts: u32, shares: &[u32]) -> bool
     requires { length shares.now ≡ most_scripts }
     ensures { result ≡ shares_fit scripts shares.now }

@@ -90,7 +90,7 @@ module _
         any-in (is_field_of Γ v.type d.name) Γ.fields d i (and_intro (eqb d.owner (class_number Γ v.type)) _ o (name-same d.name)) in
         record {
           named = record { variable = G.named; field = F.named };
-          in_scope_lem = G.there;
+          in-scope = G.there;
           known =
               and_intro (not (reserved d.name)) _ F.free
               (or_right (is_int vs v.name) _ (subst (λ (C : Name). T (any (is_field_of Γ C d.name) Γ.fields)) (sym t) own));
@@ -174,10 +174,10 @@ formula-numbered Γ vs αs (p ∷ ps) ((a, b), h) =
     (formula-numbered Γ vs αs ps h)
 
 -- a property of each of them
-pub at_places_lem : (Q : Access → Type 0) (αs : List Access) (ps : List ℕ) → ((α : Access) → Member α αs → Q α) → All (Within (length αs)) ps → All Q (at_places αs ps)
+pub at-places : (Q : Access → Type 0) (αs : List Access) (ps : List ℕ) → ((α : Access) → Member α αs → Q α) → All (Within (length αs)) ps → All Q (at_places αs ps)
 unfolding at_places
-at_places_lem Q αs [] g h = tt
-at_places_lem Q αs (p ∷ ps) g ((a, b), h) = (g _ (member-at αs (pred p) no_access (omega arith)), at_places_lem Q αs ps g h)
+at-places Q αs [] g h = tt
+at-places Q αs (p ∷ ps) g ((a, b), h) = (g _ (member-at αs (pred p) no_access (omega arith)), at-places Q αs ps g h)
 
 pub places-length : (αs : List Access) (ps : List ℕ) → length (at_places αs ps) ≡ length ps
 unfolding at_places

@@ -29,7 +29,7 @@ use Rattle.filling.proofs.Words.{Named, requires_of}
 -- an atom that may stand there
 pub record Good (Γ : Declarations) (vs : List Variable) (α : Access) : Type 0 where
   pub named : Named α
-  pub in_scope_lem : T (in_scope vs α.variable)
+  pub in-scope : T (in_scope vs α.variable)
   pub known : T (known_field Γ vs α.variable α.field)
   pub of-class : T (not (is_int vs α.variable))
 
@@ -62,7 +62,7 @@ module _ (Γ : Declarations) (vs : List Variable) (s : Scope) where
     where
       both : (αs : List Access) → All (Good Γ vs) αs → All (λ (α : Access). T (in_scope vs α.variable) × T (known_field Γ vs α.variable α.field)) αs
       both [] h = tt
-      both (α ∷ αs) (g, h) = ((g.in_scope_lem, g.known), both αs h)
+      both (α ∷ αs) (g, h) = ((g.in-scope, g.known), both αs h)
 
   agrees : (αs : List Access) → T (all (atom_agrees Γ vs) (formula_of (atom_words αs)))
   unfolding atom_agrees atom_words Text.opened Base.opened Syntax.is_path

@@ -27,7 +27,7 @@ use Rattle.filling.specs.Claims.{joined, OneStar, SearchIsOverPrograms, StarHasM
 use Rattle.filling.proofs.Listed.{All, Found, first-agree, first-none, first_found}
 use Rattle.filling.proofs.Joined.{atoms-joined}
 use Rattle.filling.proofs.Resolved.{Good, atom_of, named-all, atoms-framed}
-use Rattle.filling.proofs.Accesses.{numbered, formula-numbered, at_places_lem, places-length}
+use Rattle.filling.proofs.Accesses.{numbered, formula-numbered, at-places, places-length}
 use Rattle.filling.proofs.Chosen.{set-within}
 use Rattle.filling.proofs.AtStar.{items_with}
 use Rattle.filling.proofs.StarRead.{StarRead, star-read}
@@ -52,7 +52,7 @@ module _ (ls : List Name) (ks : List Line) (items : List Item) (l : ℕ) (R : St
   checked_with ps = check_program (program_with m (formula_of (map (numbered (declarations ks) R.seen) αs) ps) (program items))
 
   set-good : (ps : List ℕ) → Member ps (sets_of (length αs)) → All (Good (declarations ks) R.seen) (at_places αs ps)
-  set-good ps i = at_places_lem (Good (declarations ks) R.seen) αs ps R.good (set-within (length αs) ps i).0
+  set-good ps i = at-places (Good (declarations ks) R.seen) αs ps R.good (set-within (length αs) ps i).0
 
   -- a text with a set is accepted where its program is
   set-accepted :
@@ -90,10 +90,10 @@ star-has-method ls ks items l O = (star-read ls ks items l O).method
 
 -- THE TEXT WITH THE SET
 
-set_found_lem : (l : ℕ) (o : Option (List ℕ)) (ps : List ℕ) → set_found l o ≡ accepted ps → o ≡ some ps
+set-found : (l : ℕ) (o : Option (List ℕ)) (ps : List ℕ) → set_found l o ≡ accepted ps → o ≡ some ps
 unfolding set_found
-set_found_lem l none ps e = refused-accepted e
-set_found_lem l (some qs) ps e = ap some (accepted-inj e)
+set-found l none ps e = refused-accepted e
+set-found l (some qs) ps e = ap some (accepted-inj e)
 
 -- where there is one star
 search-reached :
@@ -186,4 +186,4 @@ pub filled-is-accepted : FilledIsAccepted
 unfolding first_set
 filled-is-accepted t ks items l ps O e =
     found-accepted t ks items l (star-read (lines t) ks items l O) ps
-    (first_found _ (sets_of (length (accesses_at ks l))) ps (set_found_lem l _ ps (search-reached t ks items l ps O e)))
+    (first_found _ (sets_of (length (accesses_at ks l))) ps (set-found l _ ps (search-reached t ks items l ps O e)))

@@ -147,10 +147,10 @@ again-row (before_else ∷ bs) k m t = absurd m
 again-row (Places.behind_else ∷ bs) k m t = absurd m
 again-row (in_loop ∷ bs) k m t = t
 
-end_row_lem : (bs : List Branch) (k : Bool → List Wait → Bool) → T (may_end bs) → T (k true (waits bs)) → T (row_nests end (waits bs) k)
+end-row : (bs : List Branch) (k : Bool → List Wait → Bool) → T (may_end bs) → T (k true (waits bs)) → T (row_nests end (waits bs) k)
 unfolding may_end waits row_nests
-end_row_lem [] k m t = t
-end_row_lem (b ∷ bs) k m t = absurd m
+end-row [] k m t = t
+end-row (b ∷ bs) k m t = absurd m
 
 ends-closed : (bs : List Branch) → T (may_end bs) → bs ≡ []
 unfolding may_end
@@ -263,7 +263,7 @@ module _ (Γ : Declarations) (vs : List Variable) (l : Line) (p : Place) (closed
   unfolding Nests rows rows_of item_of resolve_statement place_after stage_after branches_after ended stage_number form stands is_statement is_kind kind_number statement_number rows_nest fits
   end-nests i w = (
     λ t.
-        end_row_lem p.branches (λ b ws. rows_nest b ws rows) (fit (statement End) i)
+        end-row p.branches (λ b ws. rows_nest b ws rows) (fit (statement End) i)
         (begin-nests (ended (place_after (statement End) p)) (waits p.branches) rows t),
     λ e. ends-closed p.branches (fit (statement End) i),
   )

@@ -19,6 +19,7 @@ pub mod Changes
 pub mod Disjoint
 pub mod Chains
 pub mod LinesTaken
+pub mod KindNumbers
 pub mod LineKinds
 pub mod Numbers
 pub mod Signs

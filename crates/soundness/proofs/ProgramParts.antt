@@ -52,25 +52,25 @@ module _ (I : ℕ → Item → Type 0) where
       pub rows : All R P.rows
 
     module _ (K : Kept) where
-      with_item_lem : (P : Program) (l : ℕ) (a : Item) → I l a → Parts P → Parts (with_item P l a)
+      with-item : (P : Program) (l : ℕ) (a : Item) → I l a → Parts P → Parts (with_item P l a)
       unfolding with_item
-      with_item_lem P l a_class i F = record { methods = F.methods; rows = F.rows }
-      with_item_lem P l (a_field f) i F = record { methods = F.methods; rows = F.rows }
-      with_item_lem P l a_method i F = record { methods = all_more M P.methods _ F.methods (K.method _); rows = F.rows }
-      with_item_lem P l (a_requires φ) i F =
+      with-item P l a_class i F = record { methods = F.methods; rows = F.rows }
+      with-item P l (a_field f) i F = record { methods = F.methods; rows = F.rows }
+      with-item P l a_method i F = record { methods = all_more M P.methods _ F.methods (K.method _); rows = F.rows }
+      with-item P l (a_requires φ) i F =
           record { methods = all-last M (with_requires φ) (λ N. K.requires l φ N i) P.methods F.methods; rows = F.rows }
-      with_item_lem P l (an_ensures φ) i F =
+      with-item P l (an_ensures φ) i F =
           record { methods = all-last M (with_ensures φ) (λ N. K.ensures l φ N i) P.methods F.methods; rows = F.rows }
-      with_item_lem P l a_main i F = record { methods = F.methods; rows = F.rows }
-      with_item_lem P l (a_local x) i F = F
-      with_item_lem P l (a_statement s) i F =
+      with-item P l a_main i F = record { methods = F.methods; rows = F.rows }
+      with-item P l (a_local x) i F = F
+      with-item P l (a_statement s) i F =
           record { methods = F.methods; rows = all_more R P.rows _ F.rows (K.row l s i) }
 
-      with_items_lem : (P : Program) (n : ℕ) (items : List Item) → ItemsHold n items → Parts P → Parts (with_items P n items)
+      with-items : (P : Program) (n : ℕ) (items : List Item) → ItemsHold n items → Parts P → Parts (with_items P n items)
       unfolding with_items
-      with_items_lem P n [] h F = F
-      with_items_lem P n (a ∷ items) h F = with_items_lem (with_item P (suc n) a) (suc n) items h.1 (with_item_lem P (suc n) a h.0 F)
+      with-items P n [] h F = F
+      with-items P n (a ∷ items) h F = with-items (with_item P (suc n) a) (suc n) items h.1 (with-item P (suc n) a h.0 F)
 
       pub parts : (items : List Item) → ItemsHold 0 items → Parts (program items)
       unfolding program
-      parts items h = with_items_lem no_program 0 items h (record { methods = tt; rows = tt })
+      parts items h = with-items no_program 0 items h (record { methods = tt; rows = tt })

@@ -297,8 +297,8 @@ module _ (text : List Line) where
         (line-fits p s.members.class s.block l.kind l.fields t.is_in_place t.within F),
   )
 
-first_fits_lem : Fitting first_place first_scope.block
-first_fits_lem = record { number = λ v i. elim i [ ]; result = λ v i. elim i [ ]; few = omega arith; empty = λ _. refl }
+first-fits : Fitting first_place first_scope.block
+first-fits = record { number = λ v i. elim i [ ]; result = λ v i. elim i [ ]; few = omega arith; empty = λ _. refl }
 
 -- THE PROGRAM
 pub record MethodNamed (M : Method) : Type 0 where
@@ -325,7 +325,7 @@ read_named t items e =
     let (ls, L) = read_taken t items e in
     let F : Parts (λ l a. ItemNamed a) MethodNamed (λ r. StmtNamed r.stmt) (program items) =
     parts (λ l a. ItemNamed a) MethodNamed (λ r. StmtNamed r.stmt) named-kept items
-    (lines-named ls 0 first_place first_scope ls items L first_fits_lem) in
+    (lines-named ls 0 first_place first_scope ls items L first-fits) in
     record {
       methods = all-at MethodNamed (program items).methods _ (record { requires = tt; ensures = tt }) F.methods;
       rows = all-at (λ r. StmtNamed r.stmt) (program items).rows no_row tt F.rows;

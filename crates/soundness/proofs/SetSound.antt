@@ -41,8 +41,8 @@ module _ (h : Heap) (F : Frame) (s : State) (S : Satisfied h F s) (most : AtMost
     gift : Given (equal_in s) acc (var x) f c.taken c.left
     gift = given (equal_in s) acc (var x) f c.taken c.left D.gives
 
-    spot_is_lem : location_of F c.taken ≡ spot
-    spot_is_lem = entry-location h F s S x f c.taken gift.named
+    spot-is : location_of F c.taken ≡ spot
+    spot-is = entry-location h F s S x f c.taken gift.named
 
     parts : Divided h F c.taken D.before D.after S.stock
     parts = divided h F _ s.permissions c S.stock D S.knows.stocked
@@ -57,7 +57,7 @@ module _ (h : Heap) (F : Frame) (s : State) (S : Satisfied h F s) (most : AtMost
     entry_whole : 2 ≤ parts.of_entry spot
     entry_whole =
         let p : Location = location_of F c.taken in
-        subst (λ (l : Location). 2 ≤ parts.of_entry l) spot_is_lem (omega (arith, entry-owns.amount p, halves-replicate 2 p))
+        subst (λ (l : Location). 2 ≤ parts.of_entry l) spot-is (omega (arith, entry-owns.amount p, halves-replicate 2 p))
 
     abbrev others : List Permission
     others = D.before ++ D.after
@@ -137,7 +137,7 @@ module _ (h : Heap) (F : Frame) (s : State) (S : Satisfied h F s) (most : AtMost
         ap (λ (l : Location). value_at written l.object l.field) e ∙ store_same h (value_of F x) f (value_of F y) n
 
     entry-object : value_of F x ≡ 0 → ⊥
-    entry-object z = entry-owns.object (ap (λ (l : Location). l.object) spot_is_lem ∙ z)
+    entry-object z = entry-owns.object (ap (λ (l : Location). l.object) spot-is ∙ z)
 
     set_known :
         (s' : State) → add_fact eq (path_of c.taken) (var y) forgotten ≡ ok s' →
@@ -152,7 +152,7 @@ module _ (h : Heap) (F : Frame) (s : State) (S : Satisfied h F s) (most : AtMost
             fact-added written F eq (path_of c.taken) (var y) forgotten s' S.stock b
             (path-reads s.permissions c.taken (subst (λ (k : Permit). T (is_path k)) (sym is-acc) tt)
             (subst (Member _) (sym D.was) (member_right D.before (c.taken ∷ D.after) _ (is-head refl))))
-            tt (written-value c.taken entry-object spot_is_lem) forgotten-known;
+            tt (written-value c.taken entry-object spot-is) forgotten-known;
         within = S.within;
       },
     )

@@ -4,3 +4,4 @@ pub mod Kept
 pub mod Decoding
 pub mod Rows
 pub mod Statements
+pub mod AtomKinds

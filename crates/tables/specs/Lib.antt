@@ -1,5 +1,6 @@
 pub mod Numbers
 pub mod Layout
 pub mod Decode
+pub mod Kinds
 pub mod Tables
 pub mod Stores

@@ -3,26 +3,32 @@
 
 mod columns;
 mod declarations;
+mod kinds;
 mod offsets;
 mod stores;
 
 ghost use Rattle.std.specs.Prelude.{◌≡◌, ◌+◌, ◌≤◌, ◌<◌, length};
-ghost use Rattle.rules.specs.Limits.{work_bytes};
 ghost use Rattle.tables.specs.Numbers.{byte_values, half_values};
 ghost use Rattle.tables.specs.Layout.{most_atom_rows};
 ghost use Rattle.tables.specs.Decode.{byte_at, half_at, word_at, expr_at, left_at, right_at, atom_kind_at, acc_variable_at, acc_field_at, method_count, main_first};
+ghost use Rattle.tables.specs.Kinds.{kind_of};
 ghost use Rattle.tables.specs.Stores.{meaning, offsets};
 
 pub use columns::{
-    atom_count_at, first_atom_at, is_closing_at, kind_at, line_at, member_at, target_at, x_at,
-    y_at, z_at,
+    atom_count_at, first_atom_at, is_closing_at, kind_at, line_at, member_at, row_kind, target_at,
+    x_at, y_at, z_at,
 };
 pub use declarations::{
     ensures_count, ensures_first, field_count_at, field_kind_at, field_name_at, first_row_at,
     place_at, requires_count, requires_first,
 };
-pub use offsets::{AtomAt, Bytes, ClassAt, HeaderAt, MethodAt, RowAt, SideTag};
+pub use kinds::{AtomKind, SideTag};
+pub use offsets::{AtomAt, Bytes, ClassAt, HeaderAt, MethodAt, RowAt};
+use rules::Machine;
 pub use stores::{put_byte, put_half, put_word};
+
+// The lent work area.
+pub type Area = [u8; Machine::WORK_BYTES];
 
 // Where each table stands in the work area: the constants below as one value.
 #[derive(Clone, Copy)]
@@ -135,8 +141,8 @@ pub fn word_at(w: &[u8], i: usize) -> u32
     u32::from_le_bytes([w[i], w[i + 1], w[i + 2], w[i + 3]])
 }
 
-// A statement row but for its target: the number of its kind, its variables, its field, class or method, how many atoms
-// it has and the first of them, its line.
+// A statement row but for its target: the number of its kind, as the row has it and `operands_at` says, its variables, its field, class or method,
+// how many atoms it has and the first of them, its line.
 #[derive(Clone, Copy)]
 pub struct Operands {
     pub kind: u8,
@@ -158,54 +164,51 @@ pub enum Expr {
     Path(usize, usize),
 }
 
-#[tactic(auto, unfolding(crate::specs::Stores::meaning, crate::specs::Decode::expr_at))]
-fn expr_by(w: &[u8], tag: usize, i: usize) -> Expr
+// A match: a tag of the tables says which variant stands there, and each is read in its own way.
+#[tactic(auto, unfolding(crate::specs::Stores::meaning, crate::specs::Decode::expr_at, crate::specs::Kinds::side_of))]
+fn expr_by(w: &[u8], tag: u8, i: usize) -> Expr
     requires { i + 4 ≤ length w.now }
     ensures { meaning result ≡ expr_at w.now tag i }
 {
-    match tag {
-        SideTag::NUM => Expr::Num(word_at(w, i)),
-        SideTag::NULL => Expr::Null,
-        SideTag::VAR => Expr::Var(byte_at(w, i)),
-        _ => Expr::Path(byte_at(w, i), byte_at(w, i + 1)),
+    match SideTag::from(tag) {
+        SideTag::Num => Expr::Num(word_at(w, i)),
+        SideTag::Null => Expr::Null,
+        SideTag::Var => Expr::Var(byte_at(w, i)),
+        SideTag::Path => Expr::Path(byte_at(w, i), byte_at(w, i + 1)),
     }
 }
 
 // The left side of the atom a.
 #[tactic(auto, unfolding(crate::specs::Decode::left_at))]
-pub fn left_at(w: &[u8], a: usize) -> Expr
-    requires { (length w.now ≡ work_bytes) × (a < most_atom_rows) }
+pub fn left_at(w: &Area, a: usize) -> Expr
+    requires { a < most_atom_rows }
     ensures { meaning result ≡ left_at w.now a }
 {
     let i = Layout::ATOMS + a * Layout::ATOM_BYTES;
-    let tag = byte_at(w, i + AtomAt::LEFT_TAG);
-    expr_by(w, tag, i + AtomAt::LEFT)
+    expr_by(w, w[i + AtomAt::LEFT_TAG], i + AtomAt::LEFT)
 }
 
 // The right side of the atom a.
 #[tactic(auto, unfolding(crate::specs::Decode::right_at))]
-pub fn right_at(w: &[u8], a: usize) -> Expr
-    requires { (length w.now ≡ work_bytes) × (a < most_atom_rows) }
+pub fn right_at(w: &Area, a: usize) -> Expr
+    requires { a < most_atom_rows }
     ensures { meaning result ≡ right_at w.now a }
 {
     let i = Layout::ATOMS + a * Layout::ATOM_BYTES;
-    let tag = byte_at(w, i + AtomAt::RIGHT_TAG);
-    expr_by(w, tag, i + AtomAt::RIGHT)
+    expr_by(w, w[i + AtomAt::RIGHT_TAG], i + AtomAt::RIGHT)
 }
 
 // THE HEADER
 
 // How many methods there are.
-pub fn method_count(w: &[u8]) -> usize
-    requires { length w.now ≡ work_bytes }
+pub fn method_count(w: &Area) -> usize
     ensures { (result ≡ method_count w.now) × (result < byte_values) }
 {
     byte_at(w, HeaderAt::METHODS)
 }
 
 // The first row of main.
-pub fn main_first(w: &[u8]) -> usize
-    requires { length w.now ≡ work_bytes }
+pub fn main_first(w: &Area) -> usize
     ensures { (result ≡ main_first w.now) × (result < half_values) }
 {
     half_at(w, HeaderAt::MAIN)
@@ -213,41 +216,33 @@ pub fn main_first(w: &[u8]) -> usize
 
 // ATOMS
 
-// The kinds of atoms, by their numbers: that of a permission is the number of its halves.
-#[derive(Clone, Copy)]
-pub struct AtomKind {}
-
-impl AtomKind {
-    pub const READ: usize = 1;
-
-    pub const ACC: usize = 2;
-
-    pub const CHAIN: usize = 3;
-
-    pub const EQ: usize = 4;
-
-    pub const NE: usize = 5;
+// The kind of the atom a.
+pub fn atom_kind(w: &Area, a: usize) -> AtomKind
+    requires { a < most_atom_rows }
+    ensures { result ≡ kind_of (atom_kind_at w.now a) }
+{
+    AtomKind::from(w[Layout::ATOMS + a * Layout::ATOM_BYTES])
 }
 
-// The kind of the atom a, as `AtomKind` numbers it.
-pub fn atom_kind(w: &[u8], a: usize) -> usize
-    requires { (length w.now ≡ work_bytes) × (a < most_atom_rows) }
+// How many halves the atom a takes, an `acc` or a `read`: the number of its kind.
+pub fn atom_halves(w: &Area, a: usize) -> usize
+    requires { a < most_atom_rows }
     ensures { (result ≡ atom_kind_at w.now a) × (result < byte_values) }
 {
     byte_at(w, Layout::ATOMS + a * Layout::ATOM_BYTES)
 }
 
 // The variable of the atom a, an `acc`, a `read` or a `chain`.
-pub fn atom_variable(w: &[u8], a: usize) -> usize
-    requires { (length w.now ≡ work_bytes) × (a < most_atom_rows) }
+pub fn atom_variable(w: &Area, a: usize) -> usize
+    requires { a < most_atom_rows }
     ensures { (result ≡ acc_variable_at w.now a) × (result < byte_values) }
 {
     byte_at(w, Layout::ATOMS + a * Layout::ATOM_BYTES + AtomAt::VARIABLE)
 }
 
 // The field of the atom a, an `acc`, a `read` or a `chain`.
-pub fn atom_field(w: &[u8], a: usize) -> usize
-    requires { (length w.now ≡ work_bytes) × (a < most_atom_rows) }
+pub fn atom_field(w: &Area, a: usize) -> usize
+    requires { a < most_atom_rows }
     ensures { (result ≡ acc_field_at w.now a) × (result < byte_values) }
 {
     byte_at(w, Layout::ATOMS + a * Layout::ATOM_BYTES + AtomAt::FIELD)

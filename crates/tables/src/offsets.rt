@@ -1,4 +1,4 @@
-// Where the columns of each row stand in it, the tags of an atom's sides, and how bytes make numbers.
+// Where the columns of each row stand in it, and how bytes make numbers.
 
 // The counts at the head of the work area.
 #[derive(Clone, Copy)]
@@ -57,20 +57,6 @@ impl AtomAt {
     pub const FIELD: usize = AtomAt::LEFT + 1;
 }
 
-// The tag of a side says what its four bytes are.
-#[derive(Clone, Copy)]
-pub struct SideTag {}
-
-impl SideTag {
-    pub const NUM: usize = 0;
-
-    pub const NULL: usize = 1;
-
-    pub const VAR: usize = 2;
-
-    pub const PATH: usize = 3;
-}
-
 // The columns of a method, after the first atom of its requires.
 #[derive(Clone, Copy)]
 pub struct MethodAt {}
@@ -96,7 +82,8 @@ impl ClassAt {
 
     pub const FIELD_BYTES: usize = 2;
 
-    // the place of a name that no field of the class has
+    // the place of a name that no field of the class has; no Option, since it is a byte of the table of places, as the clause of `place_at` and
+    // the definition `ClassFits` say
     pub const NO_PLACE: usize = 255;
 }
 

@@ -90,10 +90,10 @@ module _ (P : Program) (m₀ m₀' : Config) (agree : Agree m₀ m₀') where
     kept_on : (p : Location) → SameAt m₀.heap m₀'.heap p → SameAt a.heap b.heap p
     kept_on p s = w.kept p (I.kept p s)
 
-    go_on_lem :
+    go-on :
         b.frame ≡ a.frame → length m₀.heap ≤ length a.heap → Safe a.frame → (inner : List Frame) →
         a.callers ≡ inner ++ m₀.callers → b.callers ≡ inner ++ m₀'.callers → AllSafe inner → After a b
-    go_on_lem f g s i c c' t =
+    go-on f g s i c c' t =
         inl (
           record {
             frame = f;
@@ -112,7 +112,7 @@ module _ (P : Program) (m₀ m₀' : Config) (agree : Agree m₀ m₀') where
     stays-inside : Change m a → b.frame ≡ a.frame → a.callers ≡ m.callers → b.callers ≡ m'.callers → After a b
     stays-inside c f e e' =
         let W = change-within m a c e in
-        go_on_lem f (omega (arith, I.grows, W.grows))
+        go-on f (omega (arith, I.grows, W.grows))
         (λ p i.
         ⊎_elim (λ j. I.safe p (omega (arith, i, j)))
         (λ n. absent-agrees m₀.heap m₀'.heap p agree.alike (omega (arith, n.new, I.grows))) (W.gains p))
@@ -124,7 +124,7 @@ module _ (P : Program) (m₀ m₀' : Config) (agree : Agree m₀ m₀') where
         let N = change-entering m a C c e in
         let is : (p : Location) → holds N.caller p ≡ holds C p =
         λ p. ap (λ (F : Frame). holds F p) (cons_head (sym N.callers ∙ e)) in
-        go_on_lem f (subst (λ (h : Heap). length m₀.heap ≤ length h) (sym N.heap) I.grows)
+        go-on f (subst (λ (h : Heap). length m₀.heap ≤ length h) (sym N.heap) I.grows)
         (λ p i. I.safe p (omega (arith, i, N.divided p)))
         (C ∷ I.inner) (e ∙ ap (λ (Fs : List Frame). C ∷ Fs) I.callers) (e' ∙ ap (λ (Fs : List Frame). C ∷ Fs) I.callers')
         (λ p i. I.safe p (omega (arith, i, N.divided p, is p)), I.inner-safe)
@@ -156,7 +156,7 @@ module _ (P : Program) (m₀ m₀' : Config) (agree : Agree m₀ m₀') where
         go (D ∷ inner) s s' t =
             let is : C ≡ D = cons_head (sym e ∙ s) in
             let is' : C' ≡ C = cons_head (sym e' ∙ s') ∙ sym is in
-            go_on_lem (f' ∙ (ap (λ (F : Frame). resume P F r A) is' ∙ sym f))
+            go-on (f' ∙ (ap (λ (F : Frame). resume P F r A) is' ∙ sym f))
             (subst (λ (h : Heap). length m₀.heap ≤ length h) (sym (change-heap m a C c e)) I.grows)
             (λ p i.
             let sum : holds a.frame p ≡ holds C p + halves A p = ap (λ (F : Frame). holds F p) f ∙ resume-held P C r A p in

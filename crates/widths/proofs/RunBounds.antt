@@ -29,10 +29,10 @@ SmallCell c = Small c.value
 abbrev SmallHeap : Heap → Type 0
 SmallHeap h = All (All SmallCell) h
 
-value_in_lem : (cs : List Cell) (f : ℕ) → All SmallCell cs → Small (value_in cs f)
+value-in : (cs : List Cell) (f : ℕ) → All SmallCell cs → Small (value_in cs f)
 unfolding value_in
-value_in_lem [] f x = omega arith
-value_in_lem (c ∷ cs) f x = go (eqb c.name f) (value_in cs f) (value_in_lem cs f x.1)
+value-in [] f x = omega arith
+value-in (c ∷ cs) f x = go (eqb c.name f) (value_in cs f) (value-in cs f x.1)
   where
     go : (b : Bool) (v : ℕ) → Small v → Small (cond b c.value v)
     go true v y = x.0
@@ -40,13 +40,13 @@ value_in_lem (c ∷ cs) f x = go (eqb c.name f) (value_in cs f) (value_in_lem cs
 
 value-at : (h : Heap) (o f : ℕ) → SmallHeap h → Small (value_at h o f)
 unfolding value_at object
-value-at h zero f x = value_in_lem [] f tt
-value-at h (suc i) f x = value_in_lem (get_or h i []) f (all-get (All SmallCell) h [] i tt x)
+value-at h zero f x = value-in [] f tt
+value-at h (suc i) f x = value-in (get_or h i []) f (all-get (All SmallCell) h [] i tt x)
 
-store_in_lem : (f v : ℕ) (cs : List Cell) → Small v → All SmallCell cs → All SmallCell (store_in f v cs)
+store-in : (f v : ℕ) (cs : List Cell) → Small v → All SmallCell cs → All SmallCell (store_in f v cs)
 unfolding store_in
-store_in_lem f v [] y x = (y, tt)
-store_in_lem f v (c ∷ cs) y x = go (eqb c.name f) (store_in f v cs) (store_in_lem f v cs y x.1)
+store-in f v [] y x = (y, tt)
+store-in f v (c ∷ cs) y x = go (eqb c.name f) (store_in f v cs) (store-in f v cs y x.1)
   where
     go : (b : Bool) (r : List Cell) → All SmallCell r → All SmallCell (cond b (record { name = f; value = v } ∷ cs) (c ∷ r))
     go true r z = (y, x.1)
@@ -131,7 +131,7 @@ module _ (n : ℕ) where
   unfolding store
   store-fits h zero f v x s = x
   store-fits h (suc i) f v x s =
-      all-update (All SmallCell) h [] i (store_in f v (get_or h i [])) tt (store_in_lem f v (get_or h i []) s (all-get (All SmallCell) h [] i tt x)) x
+      all-update (All SmallCell) h [] i (store_in f v (get_or h i [])) tt (store-in f v (get_or h i []) s (all-get (All SmallCell) h [] i tt x)) x
 
   with-frame : (m : Config) (F : Frame) → Fit m → FrameFits F → Fit (with_frame m F)
   unfolding with_frame
