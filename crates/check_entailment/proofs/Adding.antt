@@ -58,9 +58,9 @@ module _ (key b : List ℕ) (apart : Bool) (l r : Term) where
       record { wf = A.wf; same = A.same ∙ sym (by-sides (state_of key b) l r related ∙ rw (← d) (last (Rules.add_fact (rel_of apart) (term_of t) (term_of u) (state_of key b)))) }
 
 -- PERMISSIONS
-pub own-atom : (key b : List ℕ) (k : Permit) (x f : ℕ) (a : Answer) (b' : List ℕ) → Adds (Rules.add_own k x f (state_of key b)) a key b' → AddsAtom key b (own k x f) a key b'
+pub own-atom : (key b : List ℕ) (k : Permit) (x f : ℕ) (a : Answer) (key' b' : List ℕ) → Adds (Rules.add_own k x f (state_of key b)) a key' b' → AddsAtom key b (own k x f) a key' b'
 unfolding Rules.add
-own-atom key b k x f a b' A = record { wf = A.wf; same = A.same ∙ sym (last (Rules.add_own k x f (state_of key b))) }
+own-atom key b k x f a key' b' A = record { wf = A.wf; same = A.same ∙ sym (last (Rules.add_own k x f (state_of key b))) }
 
 -- where it is not a `read`, one more entry
 pub own-listed : (k x f : ℕ) (s : Rules.State) → IsKind k → (k ≡ read_kind → ⊥) → Rules.add_permission (entry (permit_of k) x f) s ≡ Rules.add_own (permit_of k) x f s
@@ -152,10 +152,10 @@ module _ (key b : List ℕ) (w : Wf key b) (kinds : List ℕ) (x f i : ℕ) (B :
       (split-none joins-it _ (entries b) (λ j g. joined-entry j g false (F.before j (omega arith))))
 
   pub read-apart :
-      entries b ≤ i → (a : Answer) (b' : List ℕ) → Adds (Rules.add_permission (entry (permit_of read_kind) x f) (state_of key b)) a key b' →
-      Adds (Rules.add_own read x f (state_of key b)) a key b'
+      entries b ≤ i → (a : Answer) (key' b' : List ℕ) → Adds (Rules.add_permission (entry (permit_of read_kind) x f) (state_of key b)) a key' b' →
+      Adds (Rules.add_own read x f (state_of key b)) a key' b'
   unfolding Rules.add_own Rules.add_read permit_of
-  read-apart h a b' A = rw (none-joined h) A
+  read-apart h a key' b' A = rw (none-joined h) A
 
   module _ (h : i < entries b) where
     raised-size : length raised ≡ bytes

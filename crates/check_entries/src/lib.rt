@@ -3,10 +3,10 @@
 
 mod marks;
 
-ghost use Rattle.std.specs.Prelude.{◌≡◌, Bool, false, ℕ, ◌+◌, ◌≤◌, ◌<◌, length, get_or, eqb};
+ghost use Rattle.std.specs.Prelude.{◌≡◌, Bool, false, ℕ, ◌+◌, ◌≤◌, ◌<◌, get_or, eqb};
 ghost use Rattle.rules.specs.Limits.{most_permissions};
 ghost use Rattle.rules.specs.Syntax.{same};
-ghost use Rattle.check_equality.specs.Layout.{bytes, variables_at};
+ghost use Rattle.check_equality.specs.Layout.{variables_at};
 ghost use Rattle.check_equality.specs.Keys.{term_of};
 ghost use Rattle.check_state.specs.States.{entries, path_at_entry};
 ghost use Rattle.check_state.specs.Questions.{FirstPlace};
@@ -18,7 +18,7 @@ use rules::Machine;
 
 // x is renamed to the variable `to`.
 pub fn rename_entries(b: &mut [u8; State::BYTES], x: u8, to: u8)
-    requires { (entries b.old ≤ most_permissions) × (length b.old ≡ bytes) }
+    requires { entries b.old ≤ most_permissions }
     ensures { RenamedEntries x to b.old (entries b.old) b.new }
 {
     let all = b[State::ENTRIES] as usize;
@@ -30,7 +30,7 @@ pub fn rename_entries(b: &mut [u8; State::BYTES], x: u8, to: u8)
 
 // One more entry x.f of the kind k, unless it is out; the count of entries then.
 fn keep_entry(b: &mut [u8; State::BYTES], n: usize, out: bool, x: u8, f: u8, k: u8) -> usize
-    requires { (n < most_permissions) × (length b.old ≡ bytes) }
+    requires { n < most_permissions }
     ensures { KeepsEntry b.old n out x f k b.new result }
 {
     if out {
@@ -53,7 +53,6 @@ pub fn store_left(
     b: &mut [u8; State::BYTES],
     left: &[u8; Machine::PERMISSIONS],
 ) -> [bool; Machine::PERMISSIONS]
-    requires { length b.old ≡ bytes }
     ensures { StoredLeft b.old left.now most_permissions b.new × OutBy left.now most_permissions result }
 {
     let mut out = [false; Machine::PERMISSIONS];
@@ -80,7 +79,7 @@ pub fn first_out(out: &[bool; Machine::PERMISSIONS], n: usize) -> usize
 
 // The entries that are not out. Those before the first that is out, or all where that is their count, stay where they are.
 pub fn pack(b: &mut [u8; State::BYTES], out: &[bool; Machine::PERMISSIONS], first: usize)
-    requires { (entries b.old ≤ most_permissions) × (length b.old ≡ bytes) × FirstPlace (λ i. get_or out.now i false) (entries b.old) first }
+    requires { (entries b.old ≤ most_permissions) × FirstPlace (λ i. get_or out.now i false) (entries b.old) first }
     ensures { Packed b.old out.now b.new }
 {
     let all = b[State::ENTRIES] as usize;

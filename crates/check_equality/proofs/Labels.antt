@@ -97,8 +97,8 @@ module _ {fs : List Fact} {key label : List ℕ} {m : ℕ} (D : Decides fs key l
         before : (i ≡ m → ⊥) → Stands i
         before n = let g : i < m = omega arith in record { for = i; within = g; key-is = old-key i g; label_is = old-label i g }
 
-    known_slot_lem : HasLabel key label m k l → Decides fs (set key m k) (set label m l) (m + 1)
-    known_slot_lem w =
+    known-slot : HasLabel key label m k l → Decides fs (set key m k) (set label m l) (m + 1)
+    known-slot w =
         record {
           low = λ i h. let s = stands w i h in omega (arith, s.label_is, D.low s.for s.within);
           unique = λ i j h g e.
@@ -145,7 +145,7 @@ module _ {fs : List Fact} {key label : List ℕ} {m : ℕ} (D : Decides fs key l
             ∙ sym (ap (λ (n : ℕ). representative fs (term_of n)) (old-key j q))
 
     pub one-slot : Choice key label m k l → Decides fs (set key m k) (set label m l) (m + 1)
-    one-slot (known w) = known_slot_lem w
+    one-slot (known w) = known-slot w
     one-slot (fresh nowhere e) = fresh-slot nowhere e
 
   -- AN INEQUALITY

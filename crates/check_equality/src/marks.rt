@@ -1,6 +1,6 @@
 // Marks, one for each place of a key: a key whose place is not marked is in no slot from LEFT on.
-ghost use Rattle.std.specs.Prelude.{◌≡◌, ◌+◌, ◌≤◌, ◌<◌, length};
-ghost use Rattle.check_equality.specs.Layout.{slots, bytes, left_sides, mark_count};
+ghost use Rattle.std.specs.Prelude.{◌≡◌, ◌+◌, ◌≤◌, ◌<◌};
+ghost use Rattle.check_equality.specs.Layout.{slots, left_sides, mark_count};
 ghost use Rattle.check_equality.specs.Links.{Header, Labelled, Pushed, Marks, Marked, place_of};
 
 use crate::{State, slots};
@@ -15,7 +15,6 @@ pub fn place(k: u64) -> usize
 
 // Marks the place of a key, or not.
 pub fn mark(marks: &mut [bool; State::MARKS], yes: bool, k: u64)
-    requires { length marks.old ≡ mark_count }
     ensures { Marks yes k marks.old marks.new }
 {
     if yes {
@@ -59,7 +58,7 @@ pub fn push_marked(
     left: u64,
     right: u64,
 )
-    requires { (left_sides ≤ m) × (m + 2 ≤ slots) × Header key.old × (length label.old ≡ bytes) × Marked key.old marks.old m }
+    requires { (left_sides ≤ m) × (m + 2 ≤ slots) × Header key.old × Marked key.old marks.old m }
     ensures { Pushed key.old label.old m ne left right key.new label.new × Marked key.new marks.new (m + 2) }
 {
     let l = label_marked(key, label, marks, m, left);

@@ -1,7 +1,7 @@
 // The label of a term by its slot, and one more fact: its sides take two slots, and are linked. The labels are the first bytes of `label`,
 // one for each slot; what stands after them stays as it is.
-ghost use Rattle.std.specs.Prelude.{◌≡◌, cond, ◌||◌, eqb, ◌+◌, ◌≤◌, ◌<◌, length};
-ghost use Rattle.check_equality.specs.Layout.{slots, bytes, left_sides};
+ghost use Rattle.std.specs.Prelude.{◌≡◌, cond, ◌||◌, eqb, ◌+◌, ◌≤◌, ◌<◌};
+ghost use Rattle.check_equality.specs.Layout.{slots, left_sides};
 ghost use Rattle.check_equality.specs.Links.{Header, Labelled, Missing, Past, Merged, Joined, LinkedUnless, Slotted, Pushed, alike_by, no_label};
 
 use crate::State;
@@ -78,7 +78,6 @@ pub fn pick<T: Copy + PartialEq>(l: T, from: T, to: T) -> T
 
 // The label `to` for each label `from`.
 fn merge(label: &mut [u8; State::BYTES], from: u8, to: u8)
-    requires { length label.old ≡ bytes }
     ensures { Merged from to label.old label.new }
 {
     for i in 0..State::SLOTS {
@@ -102,7 +101,7 @@ pub fn add_slot(
     k: u64,
     l: u8,
 )
-    requires { (left_sides ≤ m) × (m < slots) × Header key.old × (length label.old ≡ bytes) × Labelled key.old label.old m k l }
+    requires { (left_sides ≤ m) × (m < slots) × Header key.old × Labelled key.old label.old m k l }
     ensures { Slotted key.old label.old m k key.new label.new }
 {
     key[m] = k;
@@ -111,7 +110,7 @@ pub fn add_slot(
 
 // The terms in the slots m and m + 1 are equal. A new term, which has its slot's own number, takes the label of the other.
 fn link(label: &mut [u8; State::BYTES], m: usize)
-    requires { (m + 2 ≤ slots) × (length label.old ≡ bytes) }
+    requires { m + 2 ≤ slots }
     ensures { Joined m label.old label.new }
 {
     let to = label[m];
@@ -129,7 +128,7 @@ fn link(label: &mut [u8; State::BYTES], m: usize)
 
 // The terms in the slots m and m + 1 are equal, unless `ne`.
 pub fn link_unless(label: &mut [u8; State::BYTES], m: usize, ne: bool)
-    requires { (m + 2 ≤ slots) × (length label.old ≡ bytes) }
+    requires { m + 2 ≤ slots }
     ensures { LinkedUnless ne m label.old label.new }
 {
     if !ne {
@@ -146,7 +145,7 @@ pub fn push(
     left: u64,
     right: u64,
 )
-    requires { (left_sides ≤ m) × (m + 2 ≤ slots) × Header key.old × (length label.old ≡ bytes) }
+    requires { (left_sides ≤ m) × (m + 2 ≤ slots) × Header key.old }
     ensures { Pushed key.old label.old m ne left right key.new label.new }
 {
     let l = label_of(key, label, m, left);

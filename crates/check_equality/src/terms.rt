@@ -26,6 +26,7 @@ fn number_key(n: u32) -> u64
 }
 
 // A term's key.
+// A match on an enum: each kind of term has a key of its own making.
 pub fn key_of(t: Term) -> u64
     ensures { term_of result ≡ meaning t }
 {

@@ -1,21 +1,23 @@
 -- Atoms of the tables, and formulas atom by atom.
 use mathlib.Core.Path.{◌≡◌, refl, sym, ap, ap₂, ◌∙◌}
-use mathlib.Core.Bool.{Bool, true, false, not, cond}
+use mathlib.Core.Bool.{Bool, true, false, not}
 use mathlib.Core.List.{List, [], ◌∷◌, map}
 use Rattle.std.specs.Prelude.{Ok, Err}
 use mathlib.Core.Logic.{inr}
-use Prim.Native.Nat.{ℕ, suc, ◌+◌, ◌-◌, ◌≤◌, ◌<◌}
+use Prim.Native.Nat.{ℕ, suc, ◌+◌, ◌-◌, ◌<◌}
 use native.Mathlib.Omega.{arith}
-use lib.Dec.{eqb}
-use borrow.Author.Tests.{lt-ltb, le-ltb}
+use denote.Enum.Bare.{sameb}
 use Rattle.rules.specs.Base.{Try, ok, no, ◌>>=◌, ◌>>◌, check}
 use Rattle.rules.specs.Limits.{most_permissions}
 use Rattle.rules.specs.Answers.{Refusal, not_shown}
-use Rattle.rules.specs.Syntax.{Formula, Atom, eq, ne, var, own, cmp}
+use Rattle.rules.specs.Syntax.{Formula, Atom, var, own, cmp}
 use Rattle.rules.specs.State as Rules
 use Rattle.rules.specs.State.{Permission, Equality, equal_in, show_from}
 use Rattle.rules.specs.Rules.{actual, subst_term, subst_atom}
-use Rattle.tables.specs.Numbers.{eq_atom}
+use Rattle.tables.specs.declared.kinds.AtomKind.{AtomKind}
+use Rattle.tables.specs.contracts.kinds.AtomKind.{the_type}
+use Rattle.tables.specs.Kinds.{kind_of, kind_number}
+use Rattle.tables.proofs.AtomKinds.{permission-kind, permit-kind, rel-kind}
 use Rattle.tables.specs.Decode.{run, is_permission, permit_of, rel_of, atom_kind_at, acc_variable_at, acc_field_at, left_at, right_at, atom_at, atoms_from}
 use Rattle.check_equality.specs.Links as Links
 use Rattle.check_state.specs.States as States
@@ -25,29 +27,36 @@ use Rattle.check_entries.specs.Entries.{LeftFits, left_of}
 use Rattle.check_entries.proofs.Halves.{all_left}
 use Rattle.check_entailment.specs.declared.Refusal as Declared
 use Rattle.check_entailment.specs.Answers.{Answer, answered, ShowsAtom, Adds, AddsAtom}
-use Rattle.check_formulas.specs.Formulas.{actual_atom, formula, Shows, Showing}
+use Rattle.check_formulas.specs.Formulas.{actual_atom, EntryKind, formula, Shows, Showing}
 
--- `eq` by its number
-pub relation : (k : ℕ) → Links.rel_of (not (eqb k eq_atom)) ≡ rel_of k
+-- `eq` and `ne` by the kind of their atom
+relation-kind : (k : AtomKind) → Links.rel_of (not (sameb the_type k AtomKind.Eq)) ≡ rel_of (kind_number k)
 unfolding Links.rel_of rel_of
-relation k = go (eqb k eq_atom)
-  where
-    go : (c : Bool) → cond (not c) ne eq ≡ cond c eq ne
-    go true = refl
-    go false = refl
+relation-kind AtomKind.Read = refl
+relation-kind AtomKind.Acc = refl
+relation-kind AtomKind.Chain = refl
+relation-kind AtomKind.Eq = refl
+relation-kind AtomKind.Ne = refl
 
-module _ (w : List ℕ) (y z x a : ℕ) where
+pub relation : (k : AtomKind) (b : ℕ) → k ≡ kind_of b → Links.rel_of (not (sameb the_type k AtomKind.Eq)) ≡ rel_of b
+relation k b e = relation-kind k ∙ ap (λ k. rel_of (kind_number k)) e ∙ rel-kind b
+
+module _ (w : List ℕ) (y z x a : ℕ) (k : AtomKind) (e : k ≡ kind_of (atom_kind_at w a)) where
+  permission : is_permission (atom_kind_at w a) ≡ is_permission (kind_number k)
+  permission = sym (permission-kind _) ∙ ap (λ k. is_permission (kind_number k)) (sym e)
+
   pub atom-own :
-      (k kind v f : ℕ) → k ≡ atom_kind_at w a → k < eq_atom → States.permit_of kind ≡ permit_of k → v ≡ actual y z x (acc_variable_at w a) → f ≡ acc_field_at w a →
+      (kind v f : ℕ) → EntryKind (kind_number k) kind → v ≡ actual y z x (acc_variable_at w a) → f ≡ acc_field_at w a →
       own (States.permit_of kind) v f ≡ actual_atom w y z x a
-  unfolding atom_at is_permission subst_atom
-  atom-own k kind v f e h p d g = rw (p, d, g, ← e, lt-ltb k eq_atom h)
+  unfolding atom_at subst_atom
+  atom-own kind v f h d g =
+      rw (h.1.1, d, g, permission, h.0, ap (λ k. permit_of (kind_number k)) e ∙ permit-kind (atom_kind_at w a))
 
   pub atom-relation :
-      (k : ℕ) (apart : Bool) (l r : Rules.Term) → k ≡ atom_kind_at w a → eq_atom ≤ k → apart ≡ not (eqb k eq_atom) → l ≡ subst_term (actual y z x) (left_at w a) →
-      r ≡ subst_term (actual y z x) (right_at w a) → cmp (Links.rel_of apart) l r ≡ actual_atom w y z x a
-  unfolding atom_at is_permission subst_atom
-  atom-relation k apart l r e h p d g = rw (p, d, g, ← e, le-ltb k eq_atom h, relation k)
+      (l r : Rules.Term) → is_permission (kind_number k) ≡ false → l ≡ subst_term (actual y z x) (left_at w a) →
+      r ≡ subst_term (actual y z x) (right_at w a) → cmp (Links.rel_of (not (sameb the_type k AtomKind.Eq))) l r ≡ actual_atom w y z x a
+  unfolding atom_at subst_atom
+  atom-relation l r h p d = rw (relation k _ e, p, d, permission, h)
 
 module _ (w : List ℕ) (y z x : ℕ) where
   pub formula-none : (a : ℕ) → formula w y z x a 0 ≡ []

@@ -1,10 +1,11 @@
 -- Formulas of the tables, with other variables for some.
-use Rattle.std.specs.Prelude.{◌≡◌, List, map, ℕ, ⊤}
+use Rattle.std.specs.Prelude.{◌≡◌, true, List, map, ℕ, ⊤}
 use Rattle.rules.specs.Syntax.{Atom, Formula, own, cmp}
 use Rattle.rules.specs.State as Rules
 use Rattle.rules.specs.State.{equal_in, show_from}
 use Rattle.rules.specs.Rules.{actual, subst_atom}
-use Rattle.tables.specs.Decode.{atom_at, atoms_from}
+use Rattle.tables.specs.Decode as Decode
+use Rattle.tables.specs.Decode.{is_permission, atom_at, atoms_from}
 use Rattle.check_equality.specs.Keys.{meaning}
 use Rattle.check_equality.specs.Links.{rel_of}
 use Rattle.check_state.specs.States.{state_of, permit_of, IsKind}
@@ -19,6 +20,10 @@ side_bytes = 4
 -- the atom a, with y, z and x for `this`, w and `result`
 abbrev pub actual_atom : List ℕ → ℕ → ℕ → ℕ → ℕ → Atom ℕ
 actual_atom w y z x a = subst_atom (actual y z x) (atom_at w a)
+
+-- e is the kind of the entries for a permission of the kind k of atoms
+abbrev pub EntryKind : ℕ → ℕ → Type 0
+EntryKind k e = (is_permission k ≡ true) × (IsKind e × (permit_of e ≡ Decode.permit_of k))
 
 -- an atom as it is read: a permission by the kind of its entries, or a relation by its terms
 unfoldable pub atom_of : Declared.Atom → Atom ℕ

@@ -41,6 +41,7 @@ fn some_unequal(a: u8, b: u8, c: u8, d: u8, e: u8, f: u8, g: u8, h: u8) -> bool
 }
 
 // Is an inequality whose sides have the labels x and y among the facts up to n, where none is before `from`?
+// Not one with the searches of `by_numbers`: the test is the whole loop, and as a closure it would need a clause that says it again.
 fn unequal_from(b: &[u8; State::BYTES], from: usize, n: usize, x: u8, y: u8) -> bool
     requires { (from ≤ n) × (n ≤ most_facts) × (any (unequal_in b.now x y) (places from) ≡ false) }
     ensures { result ≡ any (unequal_in b.now x y) (places n) }

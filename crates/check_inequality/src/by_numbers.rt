@@ -1,8 +1,7 @@
 // Way (b): two numbers that are ~ the terms.
-ghost use Rattle.std.specs.Prelude.{◌≡◌, ◌≤◌, ◌<◌, length};
+ghost use Rattle.std.specs.Prelude.{◌≡◌, ◌≤◌, ◌<◌};
 ghost use Rattle.rules.specs.Base.{any};
 ghost use Rattle.rules.specs.Limits.{most_facts};
-ghost use Rattle.check_equality.specs.Layout.{slots, bytes};
 ghost use Rattle.check_state.specs.Questions.{places};
 ghost use Rattle.check_inequality.specs.Ways.{most_terms, number_like, other_like, other_number, two_numbers, FactLabel, NumbersTold};
 
@@ -28,6 +27,7 @@ fn other_like(j: u64, l: u64, b: u8, k: u64, c: u8) -> bool
 }
 
 // Is a number other than that of j ~ the term of l?
+// Not one with the search below: each is a loop of one test, and a closure in its place would need a clause that says the test again.
 fn other_number<'a>(
     key: &'a [u64; State::SLOTS],
     label: &'a [u8; State::BYTES],
@@ -99,7 +99,7 @@ pub fn numbers_apart<'a>(
     u: u64,
     b: u8,
 ) -> bool
-    requires { (n ≤ most_facts) × (length key.now ≡ slots) × (length label.now ≡ bytes) × FactLabel key.now label.now n t a × FactLabel key.now label.now n u b }
+    requires { (n ≤ most_facts) × FactLabel key.now label.now n t a × FactLabel key.now label.now n u b }
     ensures { NumbersTold key.now label.now n t u result }
 {
     let mut k = *key;

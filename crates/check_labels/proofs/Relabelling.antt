@@ -220,9 +220,9 @@ module _ (b : List ℕ) (x : ℕ) (w : Lone x) (s : length b ≡ bytes) where
       far i h true e = label-other x i (λ d. omega (arith, ltb-true x null_slot e))
       far i h false e = rw e
 
-pub lone_of_lem : (x : ℕ) → Lone (lone_of x)
+pub is-lone : (x : ℕ) → Lone (lone_of x)
 unfolding lone_of
-lone_of_lem x = go (ltb x null_slot) refl
+is-lone x = go (ltb x null_slot) refl
   where
     go : (c : Bool) → ltb x null_slot ≡ c → Lone (cond c x 255)
     go true e = inl (ltb-true x null_slot e)

@@ -1,7 +1,7 @@
 // The facts that stay, linked one after the other, with labels made anew.
-ghost use Rattle.std.specs.Prelude.{◌≡◌, ◌+◌, ◌<◌, ◌*◌, length};
+ghost use Rattle.std.specs.Prelude.{◌+◌, ◌<◌, ◌*◌};
 ghost use Rattle.rules.specs.Limits.{most_facts};
-ghost use Rattle.check_equality.specs.Layout.{bytes, left_sides};
+ghost use Rattle.check_equality.specs.Layout.{left_sides};
 ghost use Rattle.check_equality.specs.Links.{Marked};
 ghost use Rattle.check_state.specs.States.{Linked};
 ghost use Rattle.check_labels.specs.Facts.{Fresh, KeepsFact, Sized, Rebuilt};
@@ -9,8 +9,8 @@ ghost use Rattle.check_labels.specs.Facts.{Fresh, KeepsFact, Sized, Rebuilt};
 use check_equality::State;
 
 // The labels of the slots before the facts' are their own numbers.
+// Not one with `header` of `check_forgetting`, which makes words and gives null a key of its own.
 pub fn fresh(b: &mut [u8; State::BYTES])
-    requires { length b.old ≡ bytes }
     ensures { Fresh b.old b.new }
 {
     for i in 0..State::LEFT {

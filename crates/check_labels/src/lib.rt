@@ -4,9 +4,9 @@
 
 mod anew;
 
-ghost use Rattle.std.specs.Prelude.{◌≡◌, ℕ, ◌+◌, ◌*◌, Bool, true, false, ◌||◌, ◌≤◌, ◌<◌, length, slice_index_or};
+ghost use Rattle.std.specs.Prelude.{◌≡◌, ℕ, ◌+◌, ◌*◌, Bool, true, false, ◌||◌, ◌≤◌, ◌<◌, slice_index_or};
 ghost use Rattle.rules.specs.Limits.{most_facts};
-ghost use Rattle.check_equality.specs.Layout.{bytes, slots, left_sides, right_sides};
+ghost use Rattle.check_equality.specs.Layout.{slots, left_sides, right_sides};
 ghost use Rattle.check_state.specs.States.{facts};
 ghost use Rattle.check_scans.specs.Scans.{Untouched, trivial_at};
 ghost use Rattle.check_labels.specs.Facts.{Rebuilt};
@@ -44,7 +44,7 @@ fn lone(x: u8) -> u8
 // The new label of slot j, which had the label a: `name` has the new labels by the old ones, NO_LABEL for none yet (bytes, since Options
 // would take twice the room). That of x is its own.
 fn new_label(name: &mut [u8; State::SLOTS], j: usize, a: u8, x: u8) -> u8
-    requires { (j < slots) × (a < slots) × (length name.old ≡ slots) }
+    requires { (j < slots) × (a < slots) }
     ensures { Named j a x name.old name.new result }
 {
     let own = j as u8;
@@ -102,7 +102,6 @@ fn fits(b: &[u8; State::BYTES], m: usize, x: u8) -> bool
 
 // The label of the variable x, if it is one.
 fn set_label(b: &mut [u8; State::BYTES], x: u8, l: u8)
-    requires { length b.old ≡ bytes }
     ensures { b.new ≡ with_label x l b.old }
 {
     if x < State::VARIABLE_COUNT {
@@ -132,7 +131,7 @@ fn move_fact(
     out: bool,
     i: usize,
 ) -> usize
-    requires { (n ≤ i) × (i < most_facts) × (length key.old ≡ slots) × (length b.old ≡ bytes) }
+    requires { (n ≤ i) × (i < most_facts) }
     ensures { MovesFact key.old b.old n out i key.new b.new result }
 {
     if out {

@@ -1,18 +1,18 @@
 // Where forgetting begins: the first fact that it may change, which is one that names what is dropped, or has one term on both sides. The
 // facts before it stay as they are.
-#![tactic(auto)]
+#![tactic(auto, using(check_state::proofs::Whole::whole))]
 
 mod keys;
 mod sides;
 
 ghost use Rattle.std.specs.Prelude.{◌≡◌, ℕ, ◌+◌, ◌*◌, ◌≤◌, Bool, false, nat_eq};
-ghost use Rattle.rules.specs.Limits.{most_facts};
 ghost use Rattle.check_equality.specs.Layout.{slots, left_sides};
 ghost use Rattle.check_state.specs.States.{facts};
 ghost use Rattle.check_scans.specs.Sides.{mentions_key, Tells};
 ghost use Rattle.check_scans.specs.Scans.{same_sides, Scanned, NoPath, marked_key, path_key_of};
 
 use check_equality::State;
+use check_state::Known;
 pub use keys::{mentions, rename};
 pub use sides::{drop_path, drop_paths, drop_variable, rename_keys, swap_key};
 
@@ -27,19 +27,14 @@ pub fn trivial(c: u8, left: u64, right: u64) -> bool
 }
 
 // The first fact that has a side that passes, or one term on both sides; or the count of facts.
-fn first_touched<'a, F: Fn(u64) -> bool>(
-    key: &'a [u64; State::SLOTS],
-    b: &'a [u8; State::BYTES],
-    passes: F,
-) -> usize
-    requires few { facts b.now ≤ most_facts }
+fn first_touched<'a, F: Fn(u64) -> bool>(known: &Known, passes: F) -> usize
     requires callable { F.IsAlwaysCallable passes }
-    ensures { (test : ℕ → Bool) → Tells (F.post passes) test key.now (left_sides + 2 * facts b.now) → Scanned test key.now b.now result }
+    ensures { (test : ℕ → Bool) → Tells (F.post passes) test known.now.keys (left_sides + 2 * facts known.now.bytes) → Scanned test known.now.keys known.now.bytes result }
 {
-    let n = b[State::FACTS] as usize;
+    let n = known.bytes[State::FACTS] as usize;
     for i in 0..n {
-        let left = key[State::LEFT + 2 * i];
-        let right = key[State::RIGHT + 2 * i];
+        let left = known.keys[State::LEFT + 2 * i];
+        let right = known.keys[State::RIGHT + 2 * i];
         if passes(left) || passes(right) || left == right {
             return i;
         }
@@ -48,31 +43,24 @@ fn first_touched<'a, F: Fn(u64) -> bool>(
 }
 
 // The first fact that the key k's being dropped may change, or the count of facts.
-pub fn first_with<'a>(key: &'a [u64; State::SLOTS], b: &'a [u8; State::BYTES], k: u64) -> usize
-    requires { facts b.now ≤ most_facts }
-    ensures { Scanned (λ l. nat_eq l k) key.now b.now result }
+pub fn first_with(known: &Known, k: u64) -> usize
+    ensures { Scanned (λ l. nat_eq l k) known.now.keys known.now.bytes result }
 {
-    first_touched(key, b, |l| l == k)
+    first_touched(known, |l| l == k)
 }
 
 // The first fact that x's being dropped or renamed may change, or the count of facts.
-pub fn first_naming<'a>(key: &'a [u64; State::SLOTS], b: &'a [u8; State::BYTES], x: u8) -> usize
-    requires { facts b.now ≤ most_facts }
-    ensures { Scanned (mentions_key x) key.now b.now result }
+pub fn first_naming(known: &Known, x: u8) -> usize
+    ensures { Scanned (mentions_key x) known.now.keys known.now.bytes result }
 {
-    first_touched(key, b, |l| keys::mentions(l, x))
+    first_touched(known, |l| keys::mentions(l, x))
 }
 
 // The first fact that the dropping of keys whose places are marked may change, or the count of facts.
-pub fn first_marked<'a>(
-    key: &'a [u64; State::SLOTS],
-    b: &'a [u8; State::BYTES],
-    marks: &'a [bool; State::MARKS],
-) -> usize
-    requires { facts b.now ≤ most_facts }
-    ensures { Scanned (marked_key marks.now) key.now b.now result }
+pub fn first_marked(known: &Known, marks: &[bool; State::MARKS]) -> usize
+    ensures { Scanned (marked_key marks.now) known.now.keys known.now.bytes result }
 {
-    first_touched(key, b, |l| marks[check_equality::place(l)])
+    first_touched(known, |l| marks[check_equality::place(l)])
 }
 
 // Does a key name x, and is it not x itself?

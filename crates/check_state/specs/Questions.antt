@@ -14,6 +14,7 @@ use Rattle.check_equality.specs.Listing.{listed}
 use Rattle.check_equality.specs.Links.{Header, Decides}
 use Rattle.check_state.specs.States.{variable_at, field_at, permission_at, entries}
 
+-- so many slots are taken: those before the facts', and some of the facts'
 pub record Slots (key b : List ℕ) (m : ℕ) : Type 0 where
   pub header : Header key
   pub some : left_sides ≤ m

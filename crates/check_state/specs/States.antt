@@ -64,6 +64,10 @@ facts b = get_or b fact_count 0
 abbrev pub entries : List ℕ → ℕ
 entries b = get_or b entry_count 0
 
+-- how many slots are taken: those before the facts', and two for each fact
+abbrev pub slots_in : List ℕ → ℕ
+slots_in b = left_sides + 2 * facts b
+
 abbrev pub facts_of : List ℕ → List ℕ → List Fact
 facts_of key b = facts_in key b (facts b)
 

@@ -61,11 +61,11 @@ module _ (key b : List ℕ) (w : Wf key b) (kinds : List ℕ) (B : Bytes (kind_a
           adds-no (Err r) key b w _ (after-done _ (left_of b left) _ (taken (Ok tt) T) ∙ after-refused _ (left_of b left') _ r (whole (Err r) U) (state_of key b))
 
       pub shut-done :
-          Takes key b left acc_kind u f (Ok tt) left' → (key₁ b₁ : List ℕ) → Becomes (Rules.remainder (state_of key b) (left_of b left')) key₁ b₁ → (r : Answer) (b₂ : List ℕ) →
-          Adds (Rules.add_permission (entry (permit_of chain_kind) x f) (state_of key₁ b₁)) r key₁ b₂ → Adds (shut_path x f t (state_of key b)) r key₁ b₂
+          Takes key b left acc_kind u f (Ok tt) left' → (key₁ b₁ : List ℕ) → Becomes (Rules.remainder (state_of key b) (left_of b left')) key₁ b₁ → (r : Answer) (key₂ b₂ : List ℕ) →
+          Adds (Rules.add_permission (entry (permit_of chain_kind) x f) (state_of key₁ b₁)) r key₂ b₂ → Adds (shut_path x f t (state_of key b)) r key₂ b₂
       unfolding shut_path permit_of
-      shut-done U key₁ b₁ R r b₂ A =
-          adds_same _ _ r key₁ b₂
+      shut-done U key₁ b₁ R r key₂ b₂ A =
+          adds_same _ _ r key₂ b₂
           (sym (after-done _ (left_of b left) _ (taken (Ok tt) T) ∙ after-done _ (left_of b left') _ (whole (Ok tt) U) ∙ rw (← R.same))) A
 
 -- x ≠ null

@@ -332,7 +332,3 @@ module _ (φ : Formula ℕ) (e₁ e₂ : End) where
 
 pub empty-add : (w : List ℕ) (a n : ℕ) (s : Rules.State) → s ≡ Rules.empty → Rules.add (formula w 0 1 14 a n) s ≡ Rules.add (atoms_from w a n) Rules.empty
 empty-add w a n s d = ap₂ (λ (φ : Formula ℕ) (s : Rules.State). Rules.add φ s) (plain w a n) d
-
--- a copy of a state
-pub copied : (key b key2 b2 : List ℕ) → Wf key b → key2 ≡ key → b2 ≡ b → Wf key2 b2
-copied key b key2 b2 w e d = rw (e, d) w

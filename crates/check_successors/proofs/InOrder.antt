@@ -14,8 +14,8 @@ use Rattle.check_equality.specs.Keys.{term_of}
 use Rattle.check_equality.proofs.Keys.{of_number}
 use Rattle.check_equality.specs.Listing.{listed}
 use Rattle.check_equality.proofs.Listing.{first-append, first-stays, first-here, first_found}
-use Rattle.check_state.specs.States.{Wf, fact_at, facts_in, facts_of, facts, entries, state_of, left_at, path_at_entry}
-use Rattle.check_state.specs.Questions.{Slots, FirstPlace, stands_for}
+use Rattle.check_state.specs.States.{fact_at, facts_in, facts_of, facts, entries, state_of, left_at, path_at_entry}
+use Rattle.check_state.specs.Questions.{FirstPlace, stands_for}
 use Rattle.check_state.proofs.Entries.{first-none}
 use Rattle.std.specs.Prelude as Std
 use Rattle.std.specs.Prelude.{Some, None}
@@ -157,6 +157,3 @@ unfolding number_or bind_option term_or
 key-number None h = refl
 key-number (Some k) h =
     let e : k ≡ 65793 + (k - 65793) = omega (arith, h) in ap (λ (j : ℕ). some (term_of j)) e ∙ ap some (of_number (k - 65793))
-
-pub slots : {key b : List ℕ} → Wf key b → Slots key b (16 + 2 * facts b)
-slots W = record { header = W.linked.header; some = omega arith; most = omega (arith, W.linked.fit) }

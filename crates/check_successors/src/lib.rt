@@ -1,17 +1,18 @@
 // The successor of a dropped term: the first term left that is ~ to it, in the order of variables, listed paths, null, numbers rising.
-#![tactic(auto)]
+#![tactic(auto, using(check_state::proofs::Whole::whole))]
 
-ghost use Rattle.std.specs.Prelude.{◌≡◌, ◌+◌, ◌*◌, ◌≤◌, length};
+ghost use Rattle.std.specs.Prelude.{◌≡◌, ◌+◌, ◌*◌, ◌≤◌};
 ghost use Rattle.rules.specs.Limits.{most_permissions};
 ghost use Rattle.rules.proofs.Rising.{least};
-ghost use Rattle.check_equality.specs.Layout.{slots, left_sides, mark_count};
+ghost use Rattle.check_equality.specs.Layout.{slots, left_sides};
+ghost use Rattle.check_state.specs.States.{slots_in};
 ghost use Rattle.check_equality.specs.Keys.{first_number};
 ghost use Rattle.check_equality.specs.Links.{Labelled};
-ghost use Rattle.check_state.specs.States.{Wf, facts};
-ghost use Rattle.check_state.specs.Questions.{Slots, Told, FirstPlace};
+ghost use Rattle.check_state.specs.Questions.{Told, FirstPlace};
 ghost use Rattle.check_successors.specs.Successors.{number_or, Numbered, offset_of, lower_of, with_slot, number_with, number_at_side, MarksLike, path_test, entry_path_test, IsSuccessor, least_number};
 
 use check_equality::State;
+use check_state::Known;
 use rules::Machine;
 
 // How many numbers 32 bits hold, and the first that is negative.
@@ -63,17 +64,12 @@ fn number_at(k: u64, c: u8, a: u8) -> bool
 }
 
 // The first of n sides that is a number with the label a, or n.
-fn first_number<'a>(
-    key: &'a [u64; State::SLOTS],
-    b: &'a [u8; State::BYTES],
-    n: usize,
-    a: u8,
-) -> usize
+fn first_number(known: &Known, n: usize, a: u8) -> usize
     requires { left_sides + n ≤ slots }
-    ensures { FirstPlace (number_at_side key.now b.now a) n result }
+    ensures { FirstPlace (number_at_side known.now.keys known.now.bytes a) n result }
 {
     for i in 0..n {
-        if number_at(key[State::LEFT + i], b[State::LEFT + i], a) {
+        if number_at(known.keys[State::LEFT + i], known.bytes[State::LEFT + i], a) {
             return i;
         }
     }
@@ -81,56 +77,45 @@ fn first_number<'a>(
 }
 
 // The key of the least number that is ~ the term of t among the first n sides.
-fn least_number<'a>(
-    key: &'a [u64; State::SLOTS],
-    b: &'a [u8; State::BYTES],
-    m: usize,
-    n: usize,
-    t: u64,
-    a: u8,
-) -> Option<u64>
-    requires { Slots key.now b.now m × Labelled key.now b.now m t a × (left_sides + n ≤ m) }
-    ensures { Numbered result × Told key.now b.now m (λ same. number_or result ≡ least_number same key.now n t) }
+fn least_number(known: &Known, n: usize, t: u64, a: u8) -> Option<u64>
+    requires { Labelled known.now.keys known.now.bytes (slots_in known.now.bytes) t a × (left_sides + n ≤ slots_in known.now.bytes) }
+    ensures { Numbered result × Told known.now.keys known.now.bytes (slots_in known.now.bytes) (λ same. number_or result ≡ least_number same known.now.keys n t) }
 {
     let mut best = None;
-    for i in first_number(key, b, n, a)..n {
-        best = number_step(best, key[State::LEFT + i], b[State::LEFT + i], t, a);
+    for i in first_number(known, n, a)..n {
+        best = number_step(
+            best,
+            known.keys[State::LEFT + i],
+            known.bytes[State::LEFT + i],
+            t,
+            a,
+        );
     }
     best
 }
 
 // The places of the key t and of the keys of the sides with the label a: every path that is ~ the term of t has one of them.
-fn marks_like<'a>(
-    key: &'a [u64; State::SLOTS],
-    b: &'a [u8; State::BYTES],
-    m: usize,
-    t: u64,
-    a: u8,
-    marks: &mut [bool; State::MARKS],
-)
-    requires { (m ≤ slots) × (length marks.old ≡ mark_count) }
-    ensures { MarksLike key.now b.now m t a marks.new }
+fn marks_like(known: &Known, t: u64, a: u8, marks: &mut [bool; State::MARKS])
+    ensures { MarksLike known.now.keys known.now.bytes (slots_in known.now.bytes) t a marks.new }
 {
     check_equality::mark(marks, true, t);
-    for i in State::LEFT..m {
-        check_equality::mark(marks, b[i] == a, key[i]);
+    for i in State::LEFT..known.slots() {
+        check_equality::mark(marks, known.bytes[i] == a, known.keys[i]);
     }
 }
 
 // Is the path x.f left, and ~ the term of t?
-fn path_like<'a>(
-    key: &'a [u64; State::SLOTS],
-    b: &'a [u8; State::BYTES],
-    m: usize,
-    marks: &'a [bool; State::MARKS],
+fn path_like(
+    known: &Known,
+    marks: &[bool; State::MARKS],
     left: bool,
     x: u8,
     f: u8,
     t: u64,
     a: u8,
 ) -> bool
-    requires { Slots key.now b.now m × Labelled key.now b.now m t a × MarksLike key.now b.now m t a marks.now }
-    ensures { Told key.now b.now m (λ same. result ≡ path_test same left x f t) }
+    requires { Labelled known.now.keys known.now.bytes (slots_in known.now.bytes) t a × MarksLike known.now.keys known.now.bytes (slots_in known.now.bytes) t a marks.now }
+    ensures { Told known.now.keys known.now.bytes (slots_in known.now.bytes) (λ same. result ≡ path_test same left x f t) }
 {
     if !left {
         return false;
@@ -140,34 +125,24 @@ fn path_like<'a>(
     if !marks[p] {
         return false;
     }
-    let c = check_equality::label_of(key, b, m, k);
+    let c = known.label_of(k);
     check_equality::alike(k, c, t, a)
 }
 
 // The first of n entries that is a path, not to be skipped and ~ the term of t, or n.
-fn first_entry<'a>(
-    key: &'a [u64; State::SLOTS],
-    b: &'a [u8; State::BYTES],
-    m: usize,
-    skip: &'a [bool; Machine::PERMISSIONS],
-    n: usize,
-    t: u64,
-    a: u8,
-) -> usize
-    requires { Slots key.now b.now m × Labelled key.now b.now m t a × (n ≤ most_permissions) }
-    ensures { Told key.now b.now m (λ same. FirstPlace (entry_path_test same b.now skip.now t) n result) }
+fn first_entry(known: &Known, skip: &[bool; Machine::PERMISSIONS], n: usize, t: u64, a: u8) -> usize
+    requires { Labelled known.now.keys known.now.bytes (slots_in known.now.bytes) t a × (n ≤ most_permissions) }
+    ensures { Told known.now.keys known.now.bytes (slots_in known.now.bytes) (λ same. FirstPlace (entry_path_test same known.now.bytes skip.now t) n result) }
 {
     let mut marks = [false; State::MARKS];
-    marks_like(key, b, m, t, a, &mut marks);
+    marks_like(known, t, a, &mut marks);
     for i in 0..n {
         if path_like(
-            key,
-            b,
-            m,
+            known,
             &marks,
-            !skip[i] & (b[State::KINDS + i] < State::CHAIN),
-            b[State::VARIABLES + i],
-            b[State::FIELDS + i],
+            !skip[i] & (known.bytes[State::KINDS + i] < State::CHAIN),
+            known.bytes[State::VARIABLES + i],
+            known.bytes[State::FIELDS + i],
             t,
             a,
         ) {
@@ -179,30 +154,31 @@ fn first_entry<'a>(
 
 // The first term left that is ~ the term of t, whose label is a: x is not left (NO_VARIABLE: every variable is), nor are the paths of
 // the entries to be skipped.
-pub fn successor<'a>(
-    key: &'a [u64; State::SLOTS],
-    b: &'a [u8; State::BYTES],
-    skip: &'a [bool; Machine::PERMISSIONS],
+pub fn successor(
+    known: &Known,
+    skip: &[bool; Machine::PERMISSIONS],
     x: u8,
     t: u64,
     a: u8,
 ) -> Option<u64>
-    requires { Wf key.now b.now × Labelled key.now b.now (left_sides + 2 * facts b.now) t a }
-    ensures { IsSuccessor key.now b.now skip.now x t result }
+    requires { Labelled known.now.keys known.now.bytes (slots_in known.now.bytes) t a }
+    ensures { IsSuccessor known.now.keys known.now.bytes skip.now x t result }
 {
-    let n = 2 * (b[State::FACTS] as usize);
-    let m = State::LEFT + n;
-    let v = check_state::first_variable(key, b, m, x, t, a);
+    let n = 2 * (known.bytes[State::FACTS] as usize);
+    let v = check_state::first_variable(known, x, t, a);
     if v < State::VARIABLE_COUNT {
         return Some(check_equality::variable_key(v));
     }
-    let p = b[State::ENTRIES] as usize;
-    let i = first_entry(key, b, m, skip, p, t, a);
+    let p = known.bytes[State::ENTRIES] as usize;
+    let i = first_entry(known, skip, p, t, a);
     if i < p {
-        return Some(check_equality::path_key(b[State::VARIABLES + i], b[State::FIELDS + i]));
+        return Some(check_equality::path_key(
+            known.bytes[State::VARIABLES + i],
+            known.bytes[State::FIELDS + i],
+        ));
     }
-    if check_equality::alike(State::NULL_KEY, b[State::NULL], t, a) {
+    if check_equality::alike(State::NULL_KEY, known.bytes[State::NULL], t, a) {
         return Some(State::NULL_KEY);
     }
-    least_number(key, b, m, n, t, a)
+    least_number(known, n, t, a)
 }

@@ -5,14 +5,15 @@ ghost use Rattle.rules.specs.Grammar.{Return, Loop};
 ghost use Rattle.tables.specs.Layout.{most_atom_rows};
 ghost use Rattle.tables.specs.Decode.{row_count, atoms_from};
 ghost use Rattle.tables.specs.Tables.{Tables};
-ghost use Rattle.check_state.specs.States.{Wf, state_of};
+ghost use Rattle.check_state.specs.States.{state_of};
 ghost use Rattle.check_rows.specs.Rows.{RowIs};
 ghost use Rattle.checker.specs.Checked.{at_row, passed_at, Returns, Ended, Turned, BranchClosed, BodyClosed};
 
 use crate::{Reached, RefusedRow};
 use check_entailment::Refusal;
-use check_equality::State;
+use check_state::Known;
 use rules::Kind;
+use tables::Area;
 
 // A row's refusal, if there is one.
 pub fn at_row(r: Result<(), Refusal>, row: usize) -> Result<(), RefusedRow>
@@ -35,18 +36,17 @@ pub fn passed(r: Result<(), Refusal>, i: usize) -> Result<Reached, RefusedRow>
 
 // `return x` in a block that must show n atoms from the atom a on. No state is left after it.
 pub fn return_at(
-    w: &[u8],
+    w: &Area,
     i: usize,
     a: usize,
     n: usize,
-    key: &mut [u64; State::SLOTS],
-    b: &mut [u8; State::BYTES],
+    known: &mut Known,
 ) -> Result<Reached, RefusedRow>
-    requires { Tables w.now × (i < row_count w.now) × RowIs w.now i Return × (a + n ≤ most_atom_rows) × Wf key.old b.old }
-    ensures { Returns w.now i (atoms_from w.now a n) (state_of key.old b.old) result key.new b.new }
+    requires { Tables w.now × (i < row_count w.now) × RowIs w.now i Return × (a + n ≤ most_atom_rows) }
+    ensures { Returns w.now i (atoms_from w.now a n) (state_of known.old.keys known.old.bytes) result known.new.keys known.new.bytes }
 {
     let x = tables::x_at(w, i) as u8;
-    at_row(check_statements::return_rule(w, key, b, x, a, n), i)?;
+    at_row(check_statements::return_rule(w, known, x, a, n), i)?;
     Ok(Reached {
         at: i + 1,
         returned: true,
@@ -54,11 +54,11 @@ pub fn return_at(
 }
 
 // A first part's end, which must be its `else`.
-pub fn turned(w: &[u8], one: Reached) -> Result<(), RefusedRow>
+pub fn turned(w: &Area, one: Reached) -> Result<(), RefusedRow>
     requires { Tables w.now × Ended w.now one }
     ensures { Turned w.now one result }
 {
-    if tables::kind_at(w, one.at) == Kind::ELSE {
+    if tables::row_kind(w, one.at) == Kind::Else {
         return Ok(());
     }
     Err(RefusedRow {
@@ -67,22 +67,20 @@ pub fn turned(w: &[u8], one: Reached) -> Result<(), RefusedRow>
     })
 }
 
-// A second part's end, which must be its `join`. The first part's end, in key and b, becomes the state after it.
-pub fn joined<'a>(
-    w: &'a [u8],
+// A second part's end, which must be its `join`. The first part's end, in `known`, becomes the state after it.
+pub fn joined(
+    w: &Area,
     two: Reached,
     returned: bool,
-    key: &mut [u64; State::SLOTS],
-    b: &mut [u8; State::BYTES],
-    key2: &'a [u64; State::SLOTS],
-    b2: &'a [u8; State::BYTES],
+    known: &mut Known,
+    other: &Known,
 ) -> Result<Reached, RefusedRow>
-    requires { Tables w.now × Ended w.now two × Wf key.old b.old × Wf key2.now b2.now }
-    ensures { BranchClosed w.now two key2.now b2.now returned key.old b.old result key.new b.new }
+    requires { Tables w.now × Ended w.now two }
+    ensures { BranchClosed w.now two other.now.keys other.now.bytes returned known.old.keys known.old.bytes result known.new.keys known.new.bytes }
 {
     let at = two.at;
-    if tables::kind_at(w, at) == Kind::JOIN {
-        let l = check_rows::join_at(w, at, returned, key, b, two.returned, key2, b2);
+    if tables::row_kind(w, at) == Kind::Join {
+        let l = check_rows::join_at(w, at, returned, known, two.returned, other);
         return passed(l, at);
     }
     Err(RefusedRow {
@@ -92,19 +90,13 @@ pub fn joined<'a>(
 }
 
 // The end of the body of the `loop` at row i, which must be its `again`.
-pub fn closed(
-    w: &[u8],
-    i: usize,
-    end: Reached,
-    key: &mut [u64; State::SLOTS],
-    b: &mut [u8; State::BYTES],
-) -> Result<Reached, RefusedRow>
-    requires { Tables w.now × (i < row_count w.now) × RowIs w.now i Loop × Ended w.now end × Wf key.old b.old }
-    ensures { BodyClosed w.now i end (state_of key.old b.old) result key.new b.new }
+pub fn closed(w: &Area, i: usize, end: Reached, known: &mut Known) -> Result<Reached, RefusedRow>
+    requires { Tables w.now × (i < row_count w.now) × RowIs w.now i Loop × Ended w.now end }
+    ensures { BodyClosed w.now i end (state_of known.old.keys known.old.bytes) result known.new.keys known.new.bytes }
 {
     let at = end.at;
-    if tables::kind_at(w, at) == Kind::AGAIN {
-        let l = check_rows::again_at(w, i, end.returned, key, b);
+    if tables::row_kind(w, at) == Kind::Again {
+        let l = check_rows::again_at(w, i, end.returned, known);
         return passed(l, at);
     }
     Err(RefusedRow {

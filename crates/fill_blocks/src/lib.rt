@@ -5,46 +5,38 @@ ghost use Rattle.std.specs.Prelude.{◌≡◌, ◌<◌};
 ghost use Rattle.rules.specs.Calls.{is_accepted};
 ghost use Rattle.tables.specs.Decode.{row_count, program_in};
 ghost use Rattle.tables.specs.Tables.{Tables};
-ghost use Rattle.check_state.specs.States.{Wf};
 ghost use Rattle.checker.specs.Checked.{verdict_of};
 ghost use Rattle.fill_blocks.specs.Blocks.{block_verdict, first_row, calls_from, is_looked_at, passes, others_pass};
 
 use bound_rows::Line;
-use check_equality::State;
+use check_state::Known;
 use checker::RefusedLine;
-use tables::HeaderAt;
+use tables::{Area, HeaderAt};
 
 // ONE BLOCK: a method by its number, or main after them
 
-fn check_block(
-    work: &[u8],
-    j: usize,
-    key: &mut [u64; State::SLOTS],
-    b: &mut [u8; State::BYTES],
-) -> Result<(), RefusedLine>
-    requires { Tables work.now × Wf key.old b.old }
+fn check_block(work: &Area, j: usize, known: &mut Known) -> Result<(), RefusedLine>
+    requires { Tables work.now }
     ensures { verdict_of result ≡ block_verdict (program_in work.now) j }
 {
     if j < tables::method_count(work) {
-        return checker::check_method(work, j, key, b);
+        return checker::check_method(work, j, known);
     }
-    checker::check_main(work, key, b)
+    checker::check_main(work, known)
 }
 
 // Is the block j accepted?
-pub fn accepted(work: &[u8], j: usize) -> bool
+pub fn accepted(work: &Area, j: usize) -> bool
     requires { Tables work.now }
     ensures { result ≡ is_accepted (block_verdict (program_in work.now) j) }
 {
-    let mut key = check_forgetting::header();
-    let mut b = [0u8; State::BYTES];
-    check_forgetting::clear(&mut b);
-    check_block(work, j, &mut key, &mut b).is_ok()
+    let mut known = check_forgetting::nothing();
+    check_block(work, j, &mut known).is_ok()
 }
 
 // ITS CALLS
 
-fn first_row(work: &[u8], j: usize) -> usize
+fn first_row(work: &Area, j: usize) -> usize
     requires { Tables work.now }
     ensures { (result ≡ first_row (program_in work.now) j) × (result < row_count work.now) }
 {
@@ -55,7 +47,7 @@ fn first_row(work: &[u8], j: usize) -> usize
 }
 
 // Does the block from a row on call the method m?
-fn calls(work: &[u8], from: usize, m: usize) -> bool
+fn calls(work: &Area, from: usize, m: usize) -> bool
     requires { Tables work.now × (from < row_count work.now) }
     ensures { result ≡ calls_from (program_in work.now) m from }
 {
@@ -75,7 +67,7 @@ fn calls(work: &[u8], from: usize, m: usize) -> bool
 }
 
 // Is the block j another than the method m, and one that calls it, or one that does not?
-fn is_looked_at(work: &[u8], m: usize, calling: bool, j: usize) -> bool
+fn is_looked_at(work: &Area, m: usize, calling: bool, j: usize) -> bool
     requires { Tables work.now }
     ensures { result ≡ is_looked_at (program_in work.now) m calling j }
 {
@@ -86,7 +78,7 @@ fn is_looked_at(work: &[u8], m: usize, calling: bool, j: usize) -> bool
 }
 
 // Is it accepted, if it is looked at?
-fn passes(work: &[u8], m: usize, calling: bool, j: usize) -> bool
+fn passes(work: &Area, m: usize, calling: bool, j: usize) -> bool
     requires { Tables work.now }
     ensures { result ≡ passes (program_in work.now) m calling j }
 {
@@ -99,7 +91,7 @@ fn passes(work: &[u8], m: usize, calling: bool, j: usize) -> bool
 // ALL BLOCKS
 
 // Are all other blocks accepted that call the method m, or all that do not?
-pub fn others_pass(work: &[u8], m: usize, calling: bool) -> bool
+pub fn others_pass(work: &Area, m: usize, calling: bool) -> bool
     requires { Tables work.now }
     ensures { result ≡ others_pass (program_in work.now) m calling }
 {

@@ -5,9 +5,9 @@ use Rattle.check_entailment.proofs.add_own.Goals as goal
 pub returns-then-k-eq-READ : goal.returns-then-k-eq-READ
 unfolding permit_of
 returns-then-k-eq-READ c =
-    rw c.if-k-eq-READ.true (own-atom c.args.key.now c.args.b.now _ _ _ _ _ c.add_read.ensures)
+    rw c.if-k-eq-READ.true (own-atom c.args.known.now.keys c.args.known.now.bytes _ _ _ _ _ _ c.add_read.ensures)
 
 pub returns : goal.returns
 returns c =
-    own-atom c.args.key.now c.args.b.now _ _ _ _ _
-    (rw (own-listed c.args.k c.args.x c.args.f (state_of c.args.key.now c.args.b.now) c.requires.1 c.if-k-eq-READ.false) at (c.add_permission.ensures _ c.requires.0))
+    own-atom c.args.known.now.keys c.args.known.now.bytes _ _ _ _ _ _
+    (rw (own-listed c.args.k c.args.x c.args.f (state_of c.args.known.now.keys c.args.known.now.bytes) c.requires c.if-k-eq-READ.false) at c.add_permission.ensures)

@@ -10,7 +10,7 @@ use Rattle.check_entailment.proofs.shown_by_null.Goals as goal
 pub returns-then-want-ge-CHAIN : goal.returns-then-want-ge-CHAIN
 returns-then-want-ge-CHAIN c =
     rw (path-kind c.args.want, le-ltb _ _ c.if-want-ge-CHAIN.true)
-    (c.equal.ensures ∙ ap (λ (t : Term). equal_in (state_of c.args.key.now c.args.b.now) t (term_of c.args.k)) of-null)
+    (c.equal.ensures ∙ ap (λ (t : Term). equal_in (state_of c.args.known.now.keys c.args.known.now.bytes) t (term_of c.args.k)) of-null)
 
 pub returns-else-want-ge-CHAIN : goal.returns-else-want-ge-CHAIN
 returns-else-want-ge-CHAIN c = rw (path-kind c.args.want, lt-ltb _ _ c.if-want-ge-CHAIN.false, lt-leb _ _ c.if-want-ge-CHAIN.false)

@@ -3,4 +3,4 @@ use Rattle.check_entries.proofs.keep_entry.Goals as goal
 
 pub returns : goal.returns
 returns c =
-    rw c.if-out.false (keeps_entry _ _ _ _ _ c.requires.1 c.requires.0)
+    rw c.if-out.false (keeps_entry _ _ _ _ _ c.told-b c.requires)

@@ -5,7 +5,7 @@ use native.Mathlib.Omega.{arith}
 use Rattle.check_entries.proofs.pack.Goals as goal
 
 pub loop-i-init : goal.loop-i-init
-loop-i-init c = packing-first _ _ _ _ c.requires.1 c.requires.2
+loop-i-init c = packing-first _ _ _ _ c.told-b c.requires.1
 
 pub loop-i-preserved : goal.loop-i-preserved
 loop-i-preserved c = packing-more _ _ _ _ _ _ _ (omega (arith, c.requires.0)) c.loop-i.invariant c.keep_entry-n.ensures

@@ -9,4 +9,4 @@ use Rattle.check_forgetting.proofs.remove.Goals as goal
 pub returns : goal.returns
 unfolding Rules.remove
 returns c =
-    subst (λ (o : Option ℕ). Becomes (Rules.remove_to c.args.x o (state_of c.args.key.now c.args.b.now)) c.remove_to.new.key c.remove_to.new.b) c.stand_in-to.ensures c.remove_to.ensures
+    subst (λ (o : Option ℕ). Becomes (Rules.remove_to c.args.x o (state_of c.args.known.now.keys c.args.known.now.bytes)) c.remove_to.new.known.keys c.remove_to.new.known.bytes) c.stand_in-to.ensures c.remove_to.ensures

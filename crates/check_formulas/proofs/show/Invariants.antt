@@ -5,4 +5,4 @@ use Rattle.check_formulas.proofs.show.Given as goal
 
 abbrev pub invariant-loop-i : goal.invariant-loop-i
 invariant-loop-i l =
-    LeftFits l.b l.left × Showing l.key l.b (formula l.w l.y l.z l.x l.a l.n) (formula l.w l.y l.z l.x (l.a + l.i) (l.n - l.i)) l.left
+    LeftFits l.known.bytes l.left × Showing l.known.keys l.known.bytes (formula l.w l.y l.z l.x l.a l.n) (formula l.w l.y l.z l.x (l.a + l.i) (l.n - l.i)) l.left

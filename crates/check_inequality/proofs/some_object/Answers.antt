@@ -8,8 +8,8 @@ loop-i-init c = λ fs D. any_none _ _
 
 pub returns-then-is_object : goal.returns-then-is_object
 returns-then-is_object c =
-    λ fs D. sym (any_found _ (permission_at c.args.b.now) _ c.loop-i.i c.loop-i-test.true (sym (c.is_object.ensures fs D) ∙ c.if-is_object.true))
+    λ fs D. sym (any_found _ (permission_at c.args.known.now.bytes) _ c.loop-i.i c.loop-i-test.true (sym (c.is_object.ensures fs D) ∙ c.if-is_object.true))
 
 pub loop-i-preserved : goal.loop-i-preserved
 loop-i-preserved c =
-    λ fs D. any-past _ (permission_at c.args.b.now) _ (c.loop-i.invariant fs D) (sym (c.is_object.ensures fs D) ∙ c.if-is_object.false)
+    λ fs D. any-past _ (permission_at c.args.known.now.bytes) _ (c.loop-i.invariant fs D) (sym (c.is_object.ensures fs D) ∙ c.if-is_object.false)

@@ -1,5 +1,5 @@
 use Rattle.check_state.specs.Questions.{Told}
-use Rattle.check_state.specs.States.{permissions_in}
+use Rattle.check_state.specs.States.{slots_in, permissions_in}
 use Rattle.check_equality.specs.Keys.{term_of}
 use Rattle.rules.specs.Base.{any}
 use Rattle.rules.specs.Syntax.{var, is_path}
@@ -9,4 +9,4 @@ use Rattle.check_inequality.proofs.some_object.Given as goal
 
 abbrev pub invariant-loop-i : goal.invariant-loop-i
 invariant-loop-i l =
-    Told l.key l.b l.m (λ same. any (λ p. is_path p.permit && same (var p.variable) (term_of l.k)) (permissions_in l.b l.i) ≡ false)
+    Told l.known.keys l.known.bytes (slots_in l.known.bytes) (λ same. any (λ p. is_path p.permit && same (var p.variable) (term_of l.k)) (permissions_in l.known.bytes l.i) ≡ false)

@@ -21,7 +21,7 @@ one_of a b = go (ltb a b) refl
 
 pub loop-i-init : goal.loop-i-init
 loop-i-init c =
-    let entry = permission_at c.args.b.now in
+    let entry = permission_at c.args.known.now.bytes in
     λ fs D.
     rw c.max-i.ensures
     (⊎_elim (λ e. rw e (two-without-t _ c.args.t c.args.u entry _ (c.first_named-s.ensures.1 fs D).before))
@@ -30,17 +30,17 @@ loop-i-init c =
 
 pub loop-j-init : goal.loop-j-init
 loop-j-init c =
-    λ fs D. two-unnamed _ c.args.t c.args.u (permission_at c.args.b.now) _ _
+    λ fs D. two-unnamed _ c.args.t c.args.u (permission_at c.args.known.now.bytes) _ _
     (λ i l. (c.first_named-s.ensures.1 fs D).before i (omega (arith, l, c.min-first.ensures)))
     (λ i l. (c.first_named-v.ensures.1 fs D).before i (omega (arith, l, c.min-first.ensures)))
 
 pub loop-j-preserved : goal.loop-j-preserved
 loop-j-preserved c =
-    λ fs D. any-past _ (permission_at c.args.b.now) _ (c.loop-j.invariant fs D) (sym (c.pair.ensures fs D (c.variable_is-p.ensures fs D) (c.variable_is-q.ensures fs D)) ∙ c.if-pair.false)
+    λ fs D. any-past _ (permission_at c.args.known.now.bytes) _ (c.loop-j.invariant fs D) (sym (c.pair.ensures fs D (c.variable_is-p.ensures fs D) (c.variable_is-q.ensures fs D)) ∙ c.if-pair.false)
 
 pub loop-i-preserved : goal.loop-i-preserved
 loop-i-preserved c =
-    λ fs D. two_past _ _ _ (permission_at c.args.b.now) _ (c.loop-i.invariant fs D) (elim c.if-p-q.branch [
+    λ fs D. two_past _ _ _ (permission_at c.args.known.now.bytes) _ (c.loop-i.invariant fs D) (elim c.if-p-q.branch [
       | then-p-q+else-loop-j-test w ↦
           let e : w.loop-j.j ≡ c.loop-i.i = omega (arith, w.loop-j-test.false) in
           rw e at (w.loop-j.invariant fs D)
@@ -51,5 +51,5 @@ loop-i-preserved c =
 
 pub returns-then-pair : goal.returns-then-pair
 returns-then-pair c =
-    λ fs D. sym (two-found _ _ _ (permission_at c.args.b.now) _ c.loop-i.i c.loop-i-test.true (any_found _ (permission_at c.args.b.now) _ c.loop-j.j c.loop-j-test.true (sym (c.pair.ensures fs D (c.variable_is-p.ensures fs D) (c.variable_is-q.ensures
+    λ fs D. sym (two-found _ _ _ (permission_at c.args.known.now.bytes) _ c.loop-i.i c.loop-i-test.true (any_found _ (permission_at c.args.known.now.bytes) _ c.loop-j.j c.loop-j-test.true (sym (c.pair.ensures fs D (c.variable_is-p.ensures fs D) (c.variable_is-q.ensures
     fs D)) ∙ c.if-pair.true)))

@@ -4,7 +4,7 @@ use lib.ListN.{set}
 use mathlib.Core.Path.{refl, sym, subst}
 use Rattle.check_equality.specs.Layout.{left_sides, fact_count}
 use Rattle.check_labels.specs.Labels.{Lone, Relabelled}
-use Rattle.check_labels.proofs.Relabelling.{lone_of_lem}
+use Rattle.check_labels.proofs.Relabelling.{is-lone}
 use Rattle.check_labels.proofs.Repacking.{packing-first, packing-more, labels-below, repacked}
 use Rattle.check_labels.proofs.repack.Goals as goal
 
@@ -17,7 +17,7 @@ loop-i-preserved c =
 
 pub keep_labels-requires : goal.keep_labels-requires
 keep_labels-requires c = (
-  subst Lone (sym c.lone.ensures) (lone_of_lem c.args.x),
+  subst Lone (sym c.lone.ensures) (is-lone c.args.x),
   omega arith,
   omega (arith, c.loop-i.invariant.few, c.requires.0.wf.linked.fit),
   labels-below c.args.key.now c.args.b.now c.args.gone.now c.args.x c.loop-i.i c.loop-i.n c.loop-i.key c.loop-i.b c.requires.0 (omega arith) c.loop-i.invariant,

@@ -9,4 +9,4 @@ use Rattle.check_rows.proofs.set_at.Goals as goal
 pub returns : goal.returns
 unfolding rule
 returns c =
-    subst (λ (t : Try Refusal Rules.State). Adds t c.set_rule.result c.set_rule.new.key c.set_rule.new.b) (rw (c.x_at-x.ensures.0, c.member_at-f.ensures.0, c.y_at-y.ensures.0)) c.set_rule.ensures
+    subst (λ (t : Try Refusal Rules.State). Adds t c.set_rule.result c.set_rule.new.known.keys c.set_rule.new.known.bytes) (rw (c.x_at-x.ensures.0, c.member_at-f.ensures.0, c.y_at-y.ensures.0)) c.set_rule.ensures

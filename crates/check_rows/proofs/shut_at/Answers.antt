@@ -9,5 +9,5 @@ use Rattle.check_rows.proofs.shut_at.Goals as goal
 pub returns : goal.returns
 unfolding rule
 returns c =
-    subst (λ (t : Try Refusal Rules.State). Adds t c.shut_rule.result c.shut_rule.new.key c.shut_rule.new.b)
+    subst (λ (t : Try Refusal Rules.State). Adds t c.shut_rule.result c.shut_rule.new.known.keys c.shut_rule.new.known.bytes)
     (rw (c.x_at-x.ensures.0, c.member_at-f.ensures.0)) c.shut_rule.ensures

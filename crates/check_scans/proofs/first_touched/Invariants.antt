@@ -7,4 +7,4 @@ use Rattle.check_scans.proofs.first_touched.Given as goal
 
 abbrev pub invariant-loop-i : goal.invariant-loop-i
 invariant-loop-i g l =
-    (test : ℕ → Bool) → Tells (goal.F-post g l.passes) test l.key (left_sides + 2 * facts l.b) → Scanned test l.key l.b l.i
+    (test : ℕ → Bool) → Tells (goal.F-post g l.passes) test l.known.keys (left_sides + 2 * facts l.known.bytes) → Scanned test l.known.keys l.known.bytes l.i

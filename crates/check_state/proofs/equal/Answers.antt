@@ -1,3 +1,4 @@
+use Rattle.check_state.proofs.Whole.{whole}
 use Rattle.check_equality.proofs.Labels.{alike}
 use Rattle.rules.specs.State.{equal_in}
 use mathlib.Core.Path.{sym, ◌∙◌}
@@ -7,4 +8,4 @@ use Rattle.check_state.proofs.equal.Goals as goal
 pub returns : goal.returns
 unfolding equal_in
 returns c =
-    c.alike.ensures ∙ sym (alike c.requires.linked.decides (omega (arith, c.requires.linked.fit)) _ _ _ _ c.label_of-x.ensures c.label_of-y.ensures)
+    c.alike.ensures ∙ sym (alike (whole c.args.known.now.sound).linked.decides (omega (arith, (whole c.args.known.now.sound).linked.fit)) _ _ _ _ c.label_of-x.ensures c.label_of-y.ensures)

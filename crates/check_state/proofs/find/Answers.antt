@@ -10,7 +10,7 @@ use mathlib.Core.Bool.{Bool, true, false, ◌&&◌}
 use mathlib.Core.Path.{◌≡◌, refl, sym, ◌∙◌}
 use native.Mathlib.Omega.{arith}
 use Rattle.check_state.proofs.find.Goals as goal
-use Rattle.check_state.proofs.find.Goals.{then-b-i+else-names, else-b-i}
+use Rattle.check_state.proofs.find.Goals.{then-known-i+else-names, else-known-i}
 
 module _ (same : Equality) (t : Rules.Term) (g x f : ℕ) where
   by_field : (serves : Bool) → eqb f g ≡ true → passes same t g serves x f ≡ (serves && same (var x) t)
@@ -28,12 +28,12 @@ returns-then-names c =
     record {
       within = omega arith;
       before = c.loop-i.invariant fs D;
-      found = λ _. by_field _ _ _ _ _ _ (eq-eqb _ _ c.if-b-i.true) ∙ sym (rw c.in_range.ensures at (c.names.ensures fs D)) ∙ c.if-names.true;
+      found = λ _. by_field _ _ _ _ _ _ (eq-eqb _ _ c.if-known-i.true) ∙ sym (rw c.in_range.ensures at (c.names.ensures fs D)) ∙ c.if-names.true;
     }
 
 pub loop-i-preserved : goal.loop-i-preserved
 loop-i-preserved c =
-    λ fs D. below_more _ _ (c.loop-i.invariant fs D) (elim c.if-b-i.branch [
-      | then-b-i+else-names w ↦ by_field _ _ _ _ _ _ (eq-eqb _ _ w.if-b-i.true) ∙ sym (rw w.in_range.ensures at (w.names.ensures fs D)) ∙ w.if-names.false
-      | else-b-i w ↦ by-other _ _ _ _ _ _ (ne_eqb _ _ w.if-b-i.false)
+    λ fs D. below_more _ _ (c.loop-i.invariant fs D) (elim c.if-known-i.branch [
+      | then-known-i+else-names w ↦ by_field _ _ _ _ _ _ (eq-eqb _ _ w.if-known-i.true) ∙ sym (rw w.in_range.ensures at (w.names.ensures fs D)) ∙ w.if-names.false
+      | else-known-i w ↦ by-other _ _ _ _ _ _ (ne_eqb _ _ w.if-known-i.false)
     ])

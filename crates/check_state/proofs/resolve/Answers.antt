@@ -1,3 +1,4 @@
+use Rattle.check_state.proofs.Whole.{whole}
 use Prim.Native.Nat.{ℕ}
 use Rattle.check_state.proofs.Entries.{own-kinds, resolve-path}
 use Rattle.check_state.specs.Questions.{resolved_as}
@@ -29,5 +30,5 @@ pub returns : goal.returns
 unfolding meaning
 returns c =
     c.path_at.ensures
-    ∙ resolve-path _ _ _ _ _ _ c.requires.kinds c.requires.fit (own-kinds c.args.b.now c.requires.linked.size) (rw c.variable_key-k.ensures.0 at c.listed_entry.ensures)
-    ∙ ap (λ (t : Term). Rules.resolve (equal_in (state_of c.args.key.now c.args.b.now)) (permissions_of c.args.b.now) (meaning t)) (sym c.in-Path.is)
+    ∙ resolve-path _ _ _ _ _ _ (whole c.args.known.now.sound).kinds (whole c.args.known.now.sound).fit (own-kinds c.args.known.now.bytes (whole c.args.known.now.sound).linked.size) (rw c.variable_key-k.ensures.0 at c.listed_entry.ensures)
+    ∙ ap (λ (t : Term). Rules.resolve (equal_in (state_of c.args.known.now.keys c.args.known.now.bytes)) (permissions_of c.args.known.now.bytes) (meaning t)) (sym c.in-Path.is)

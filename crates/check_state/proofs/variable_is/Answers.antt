@@ -1,3 +1,4 @@
+use Rattle.check_state.proofs.Whole.{whole}
 use Rattle.check_equality.proofs.Labels.{alike}
 use Rattle.check_equality.specs.Keys.{term_of}
 use Rattle.check_equality.specs.Links.{alike_by}
@@ -15,11 +16,11 @@ returns-then-x-lt-VARIABLE_COUNT c =
     λ fs D.
     sym
     (ap (λ (t : Term). equal_by (representative fs) t (term_of c.args.k)) (sym c.variable_key-l.ensures.0)
-    ∙ alike D c.requires.0.most _ (get_or c.args.b.now c.args.x 0) _ _ (inl (record { place = c.args.x; within = omega (arith, c.requires.0.some); is = c.requires.0.header.variables _ c.if-x-lt-VARIABLE_COUNT.true ∙ sym c.variable_key-l.ensures.1; shown = refl })) c.requires.1
-    ∙ rw (ne_eqb (get_or c.args.b.now c.args.x 0) 255 (λ e. omega (arith, e, c.requires.0.most, D.low c.args.x (omega (arith, c.requires.0.some))))))
+    ∙ alike D (omega (arith, (whole c.args.known.now.sound).linked.fit)) _ (get_or c.args.known.now.bytes c.args.x 0) _ _ (inl (record { place = c.args.x; within = omega arith; is = (whole c.args.known.now.sound).linked.header.variables _ c.if-x-lt-VARIABLE_COUNT.true ∙ sym c.variable_key-l.ensures.1; shown = refl })) c.requires
+    ∙ rw (ne_eqb (get_or c.args.known.now.bytes c.args.x 0) 255 (λ e. omega (arith, e, (whole c.args.known.now.sound).linked.fit, D.low c.args.x (omega arith)))))
 
 pub returns : goal.returns
 returns c =
     λ fs D.
-    c.alike.ensures ∙ sym (alike D c.requires.0.most _ _ _ _ c.label_of-c.ensures c.requires.1)
+    c.alike.ensures ∙ sym (alike D (omega (arith, (whole c.args.known.now.sound).linked.fit)) _ _ _ _ c.label_of-c.ensures c.requires)
     ∙ ap (λ (t : Term). equal_by (representative fs) t (term_of c.args.k)) c.variable_key-l.ensures.0

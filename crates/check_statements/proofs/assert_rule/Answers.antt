@@ -8,4 +8,4 @@ use Rattle.check_statements.proofs.assert_rule.Goals as goal
 
 pub returns : goal.returns
 returns c =
-    subst (λ (φ : Formula ℕ). Asserts φ (state_of c.args.key.now c.args.b.now) c.show.result) (plain _ _ _) (assert-law c.args.key.now c.args.b.now _ _ c.show.new.left c.show.ensures.1)
+    subst (λ (φ : Formula ℕ). Asserts φ (state_of c.args.known.now.keys c.args.known.now.bytes) c.show.result) (plain _ _ _) (assert-law c.args.known.now.keys c.args.known.now.bytes _ _ c.show.new.left c.show.ensures.1)

@@ -8,9 +8,9 @@ pub returns-in_err-assign_rule : goal.returns-in_err-assign_rule
 unfolding meaning
 returns-in_err-assign_rule c =
     rw (passed-on _ _ c.from_residual.ensures.1)
-    (return_refused c.args.x _ (state_of c.args.key.now c.args.b.now) _ _ _ c.in_err-assign_rule.ensures, c.in_err-assign_rule.ensures.wf)
+    (return_refused c.args.x _ (state_of c.args.known.now.keys c.args.known.now.bytes) _ _ _ c.in_err-assign_rule.ensures)
 
 pub returns : goal.returns
 unfolding meaning
 returns c =
-    (return-shown c.args.x _ (state_of c.args.key.now c.args.b.now) _ _ c.in_ok-assign_rule.ensures _ c.assert_rule.ensures, c.in_ok-assign_rule.ensures.wf)
+    return-shown c.args.x _ (state_of c.args.known.now.keys c.args.known.now.bytes) _ _ c.in_ok-assign_rule.ensures _ c.assert_rule.ensures

@@ -1,3 +1,4 @@
+use Rattle.check_state.proofs.Whole.{whole}
 use native.Mathlib.Omega.{arith}
 use native.Mathlib.Numerals.{add-one}
 use mathlib.Core.Path.{◌≡◌, sym, ap, ◌∙◌}
@@ -9,7 +10,7 @@ use Rattle.check_successors.proofs.least_number.Goals as goal
 pub loop-i-init : goal.loop-i-init
 loop-i-init c = (
   tt,
-  λ fs D. none_before D c.requires.0.most _ _ _ (omega (arith, c.first_number-i.ensures.within, c.requires.2)) c.requires.1 c.first_number-i.ensures.before _ (omega arith),
+  λ fs D. none_before D (omega (arith, (whole c.args.known.now.sound).linked.fit)) _ _ _ (omega (arith, c.first_number-i.ensures.within, c.requires.1)) c.requires.0 c.first_number-i.ensures.before _ (omega arith),
 )
 
 pub loop-i-preserved : goal.loop-i-preserved
@@ -18,8 +19,8 @@ loop-i-preserved c = (
   λ fs D.
       rw add-one
       (ap number_or c.number_step-best.ensures.0
-      ∙ slot-on D c.requires.0.most c.loop-i.i c.args.t c.args.a c.loop-i.best
-      (omega (arith, c.requires.2)) c.requires.1 (c.loop-i.invariant.1 fs D)),
+      ∙ slot-on D (omega (arith, (whole c.args.known.now.sound).linked.fit)) c.loop-i.i c.args.t c.args.a c.loop-i.best
+      (omega (arith, c.requires.1)) c.requires.0 (c.loop-i.invariant.1 fs D)),
 )
 
 pub returns : goal.returns

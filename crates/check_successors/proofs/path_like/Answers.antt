@@ -1,3 +1,4 @@
+use Rattle.check_state.proofs.Whole.{whole, slots-of}
 use Rattle.std.proofs.Common.{rules}
 use Rattle.check_equality.proofs.Labels.{alike}
 use Rattle.check_equality.specs.Keys.{term_of}
@@ -22,7 +23,7 @@ returns-then-not-marks-p c =
     rw (c.if-not-left.false)
     (sym
     (ap (λ (t : Term). equal_by (representative fs) t (term_of c.args.t)) (sym c.path_key-k.ensures.0)
-    ∙ unmarked-apart c.requires.0 D _ _ c.requires.1 _ c.requires.2 _ (omega (arith, c.path_key-k.ensures.1)) (ap (λ (p : ℕ). get_or
+    ∙ unmarked-apart (slots-of (whole c.args.known.now.sound)) D _ _ c.requires.0 _ c.requires.1 _ (omega (arith, c.path_key-k.ensures.1)) (ap (λ (p : ℕ). get_or
     c.args.marks.now p false) (sym c.place-p.ensures.0) ∙ c.if-not-marks-p.true)))
 
 pub returns : goal.returns
@@ -30,5 +31,5 @@ unfolding path_test
 returns c =
     λ fs D.
     rw (c.if-not-left.false)
-    (c.alike.ensures ∙ sym (alike D c.requires.0.most _ _ _ _ c.label_of-c.ensures c.requires.1)
+    (c.alike.ensures ∙ sym (alike D (omega (arith, (whole c.args.known.now.sound).linked.fit)) _ _ _ _ c.label_of-c.ensures c.requires.0)
     ∙ ap (λ (t : Term). equal_by (representative fs) t (term_of c.args.t)) c.path_key-k.ensures.0)

@@ -17,8 +17,8 @@ decreases-branch l = l.depth * 3
 abbrev pub decreases-row : goal.decreases-row
 decreases-row l = l.depth * 3 + 1
 
-abbrev pub invariant-block-loop-key : goal.invariant-block-loop-key
-invariant-block-loop-key l = Going l.w l.depth l.from (atoms_from l.w l.a l.n) (state_of l.initial.key l.initial.b) l.at l.key l.b
+abbrev pub invariant-block-loop-known : goal.invariant-block-loop-known
+invariant-block-loop-known l = Going l.w l.depth l.from (atoms_from l.w l.a l.n) (state_of l.initial.known.keys l.initial.known.bytes) l.at l.known.keys l.known.bytes
 
-abbrev pub decreases-block-loop-key : goal.decreases-block-loop-key
-decreases-block-loop-key l = row_count l.w - l.at
+abbrev pub decreases-block-loop-known : goal.decreases-block-loop-known
+decreases-block-loop-known l = row_count l.w - l.at

@@ -5,15 +5,15 @@ use native.Mathlib.Omega.{arith}
 use Rattle.checker.proofs.check.Goals as goal
 
 pub loop-m-init : goal.loop-m-init
-loop-m-init c = (methods-all _ _ refl, (c.clear.ensures _ c.header-key.ensures).wf)
+loop-m-init c = methods-all _ _ refl
 
 pub returns-in_err-check_method : goal.returns-in_err-check_method
 returns-in_err-check_method c =
-    ap verdict_of (passed-on _ _ c.from_residual.ensures.1) ∙ method-stops _ _ _ (omega (arith, c.method_count-m-end.ensures.0, c.loop-m-test.true)) _ c.check_method.ensures.0 _ c.in_err-check_method.was ∙ sym c.loop-m.invariant.0
+    ap verdict_of (passed-on _ _ c.from_residual.ensures.1) ∙ method-stops _ _ _ (omega (arith, c.method_count-m-end.ensures.0, c.loop-m-test.true)) _ c.check_method.ensures _ c.in_err-check_method.was ∙ sym c.loop-m.invariant
 
 pub loop-m-preserved : goal.loop-m-preserved
 loop-m-preserved c =
-    (c.loop-m.invariant.0 ∙ method-accepted _ _ _ (omega (arith, c.method_count-m-end.ensures.0, c.loop-m-test.true)) _ c.check_method.ensures.0 _ c.in_ok-check_method.was, c.check_method.ensures.1)
+    c.loop-m.invariant ∙ method-accepted _ _ _ (omega (arith, c.method_count-m-end.ensures.0, c.loop-m-test.true)) _ c.check_method.ensures _ c.in_ok-check_method.was
 
 pub returns : goal.returns
-returns c = c.check_main.ensures.0 ∙ main-last _ _ _ (omega arith) ∙ sym c.loop-m.invariant.0
+returns c = c.check_main.ensures ∙ main-last _ _ _ (omega arith) ∙ sym c.loop-m.invariant

@@ -4,8 +4,8 @@ use Rattle.check_dropping.proofs.giving.store.Goals as goal
 
 pub returns-in_default : goal.returns-in_default
 unfolding term_or
-returns-in_default c = rw c.in_default.is (stored-none _ _ _ c.requires.0 c.requires.1 c.requires.2 c.requires.3)
+returns-in_default c = rw c.in_default.is (stored-none _ _ _ c.requires.0 c.requires.1 c.requires.2 c.told-gone)
 
 pub returns : goal.returns
 unfolding term_or
-returns c = rw c.in-Some.is (stored-key _ _ _ c.requires.0 c.requires.1 c.requires.2 c.requires.3 _)
+returns c = rw c.in-Some.is (stored-key _ _ _ c.requires.0 c.requires.1 c.requires.2 c.told-gone _)

@@ -14,11 +14,11 @@ marks-on m key marks M = let e : m + 1 + 1 ≡ m + 2 = omega arith in subst (λ 
 pub returns : goal.returns
 returns c = (
   pushed _ _ c.args.m c.args.left c.args.right (omega (arith, c.requires.2.size)) _ _ _ _ c.add_slot.ensures
-      c.add_slot-2.ensures c.requires.1 (omega (arith, c.add_slot.ensures.size, c.add_slot-2.ensures.size, c.requires.3)) _ _ c.link_unless.ensures,
+      c.add_slot-2.ensures c.requires.1 (omega (arith, c.add_slot.ensures.size, c.add_slot-2.ensures.size, c.told-label)) _ _ c.link_unless.ensures,
   marks-on c.args.m _ _ (marked_more _ _ _ _ _ _ c.add_slot-2.ensures.keys (omega (
     arith,
     ap length c.add_slot.ensures.keys ∙ length-set c.args.key.now c.args.m c.args.left,
     c.requires.2.size,
   )) c.place-q.ensures (marked_more
-      _ _ _ _ _ _ c.add_slot.ensures.keys (omega (arith, c.requires.2.size)) c.place-p.ensures c.requires.4)),
+      _ _ _ _ _ _ c.add_slot.ensures.keys (omega (arith, c.requires.2.size)) c.place-p.ensures c.requires.3)),
 )

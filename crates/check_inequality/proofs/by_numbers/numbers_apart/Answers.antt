@@ -4,4 +4,4 @@ use Rattle.check_inequality.proofs.by_numbers.numbers_apart.Goals as goal
 
 pub returns : goal.returns
 returns c =
-    λ D. c.different_numbers.ensures ∙ apart-law _ _ _ _ _ _ _ c.requires.0 c.requires.1 c.requires.2 c.requires.3 c.requires.4 D
+    λ D. c.different_numbers.ensures ∙ apart-law _ _ _ _ _ _ _ c.requires.0 c.told-key c.told-label c.requires.1 c.requires.2 D

@@ -1,3 +1,4 @@
+use Rattle.check_state.proofs.Whole.{whole}
 use Rattle.check_entailment.proofs.Refusals.{passed-on}
 use Rattle.check_state.specs.States.{state_of, permit_of}
 use Rattle.check_statements.proofs.Ruled.{adds-refused, adds-ok, after-done, permission-more, permission-end}
@@ -7,14 +8,13 @@ use Rattle.check_statements.proofs.objects.add_fields.Goals as goal
 pub returns-in_err-add_permission : goal.returns-in_err-add_permission
 unfolding permit_of
 returns-in_err-add_permission c =
-    rw (passed-on _ _ c.from_residual.ensures.1, c.loop-j.invariant.1, permission-more c.args.w.now c.args.c c.args.x c.args.n c.loop-j.j c.loop-j-test.true (state_of c.args.key.now c.loop-j.b), ← c.field_name_at.ensures.0)
-    (adds-refused _ _ _ _ _ (c.in_err-add_permission.ensures _ c.loop-j.invariant.0))
+    rw (passed-on _ _ c.from_residual.ensures.1, c.loop-j.invariant, permission-more c.args.w.now c.args.c c.args.x c.args.n c.loop-j.j c.loop-j-test.true (state_of c.loop-j.known.keys c.loop-j.known.bytes), ← c.field_name_at.ensures.0)
+    (adds-refused _ _ _ _ _ c.in_err-add_permission.ensures)
 
 pub loop-j-preserved : goal.loop-j-preserved
 unfolding permit_of
 loop-j-preserved c =
-    let added = c.in_ok-add_permission.ensures _ c.loop-j.invariant.0 in
-    (added.wf, c.loop-j.invariant.1 ∙ permission-more c.args.w.now c.args.c c.args.x c.args.n c.loop-j.j c.loop-j-test.true (state_of c.args.key.now c.loop-j.b) ∙ rw (← c.field_name_at.ensures.0) (after-done _ _ _ added.same))
+    c.loop-j.invariant ∙ permission-more c.args.w.now c.args.c c.args.x c.args.n c.loop-j.j c.loop-j-test.true (state_of c.loop-j.known.keys c.loop-j.known.bytes) ∙ rw (← c.field_name_at.ensures.0) (after-done _ _ _ c.in_ok-add_permission.ensures.same)
 
 pub returns : goal.returns
-returns c = rw (c.loop-j.invariant.1, permission-end c.args.w.now c.args.c c.args.x c.args.n c.loop-j.j c.loop-j-test.false (state_of c.args.key.now c.loop-j.b)) (adds-ok c.args.key.now c.loop-j.b c.loop-j.invariant.0)
+returns c = rw (c.loop-j.invariant, permission-end c.args.w.now c.args.c c.args.x c.args.n c.loop-j.j c.loop-j-test.false (state_of c.loop-j.known.keys c.loop-j.known.bytes)) (adds-ok c.loop-j.known.keys c.loop-j.known.bytes (whole c.loop-j.known.sound))

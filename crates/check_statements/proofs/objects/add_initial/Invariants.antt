@@ -1,5 +1,5 @@
 use Prim.Native.Nat.{◌-◌}
-use Rattle.check_state.specs.States.{state_of, Wf}
+use Rattle.check_state.specs.States.{state_of}
 use Rattle.rules.specs.Rules.{add_initial}
 use Rattle.tables.specs.Decode.{fields_from}
 use mathlib.Core.Path.{◌≡◌}
@@ -7,4 +7,4 @@ use Rattle.check_statements.proofs.objects.add_initial.Given as goal
 
 abbrev pub invariant-loop-j : goal.invariant-loop-j
 invariant-loop-j l =
-    Wf l.key l.b × (add_initial l.x (fields_from l.w l.c 0 l.n) (state_of l.initial.key l.initial.b) ≡ add_initial l.x (fields_from l.w l.c l.j (l.n - l.j)) (state_of l.key l.b))
+    add_initial l.x (fields_from l.w l.c 0 l.n) (state_of l.initial.known.keys l.initial.known.bytes) ≡ add_initial l.x (fields_from l.w l.c l.j (l.n - l.j)) (state_of l.known.keys l.known.bytes)
