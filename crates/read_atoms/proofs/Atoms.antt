@@ -16,7 +16,13 @@ use Rattle.tables.specs.Decode.{permit_of, rel_of}
 use Rattle.read_bytes.specs.Marks.{wide_bytes}
 use Rattle.read_bytes.proofs.Search.{true-false, both_true, same-is}
 use Rattle.read_atoms.specs.Atoms as Atoms
-use Rattle.read_atoms.specs.Atoms.{atom_word, begins_atom, begun_by}
+use Rattle.read_grammar.specs.Rows as Rows
+use Rattle.read_words.specs.Words.{packed}
+use Rattle.rules.specs.Scope.{atom_operands}
+use Rattle.std.specs.Prelude.{Option, Some, None, IsSome}
+use Rattle.tables.specs.declared.kinds.AtomKind.{AtomKind}
+use Rattle.tables.specs.Kinds.{kind_number}
+use Rattle.read_atoms.specs.Atoms.{Begins, atom_word, atom_row, begins_atom, begun_by}
 
 -- WORDS
 
@@ -73,12 +79,6 @@ of_number P n a b c d e (suc (suc (suc (suc zero)))) = d
 of_number P n a b c d e (suc (suc (suc (suc (suc zero))))) = e
 of_number P n a b c d e (suc (suc (suc (suc (suc (suc k)))))) = n (suc (suc (suc (suc (suc (suc k)))))) (λ l m. omega arith)
 
-pub no_kind : (k : ℕ) → (k ≡ 1 → ⊥) → (k ≡ 2 → ⊥) → (k ≡ 3 → ⊥) → (k ≡ 4 → ⊥) → (k ≡ 5 → ⊥) → atom_word k ≡ []
-no_kind =
-    of_number (λ k w. (k ≡ 1 → ⊥) → (k ≡ 2 → ⊥) → (k ≡ 3 → ⊥) → (k ≡ 4 → ⊥) → (k ≡ 5 → ⊥) → w ≡ []) (λ k n a b c d e. refl)
-    (λ a b c d e. absurd (a refl)) (λ a b c d e. absurd (b refl)) (λ a b c d e. absurd (c refl)) (λ a b c d e. absurd (d refl))
-    (λ a b c d e. absurd (e refl))
-
 pub word-solid : (k : ℕ) → all (between 1 255) (atom_word k) ≡ true
 unfolding Base.opened
 word-solid = of_number (λ k w. all (between 1 255) w ≡ true) (λ k n. refl) refl refl refl refl refl
@@ -93,6 +93,23 @@ unfolding Atoms.opened Base.opened Text.opened
 kind-bounds =
     of_number (λ k w. begins_atom w ≡ true → (read_atom ≤ k) × (k ≤ ne_atom)) (λ k n e. true-false (sym e)) (λ e. omega arith) (λ e. omega arith)
     (λ e. omega arith) (λ e. omega arith) (λ e. omega arith)
+
+-- each kind has operands
+pub operands-there : (k : AtomKind) → (atom_row (kind_number k)).operands ≡ 0 → ⊥
+unfolding Atoms.opened Base.opened Text.opened Rows.opened atom_operands packed
+operands-there AtomKind.Read = λ e. omega arith
+operands-there AtomKind.Acc = λ e. omega arith
+operands-there AtomKind.Chain = λ e. omega arith
+operands-there AtomKind.Eq = λ e. omega arith
+operands-there AtomKind.Ne = λ e. omega arith
+
+-- a letter that begins a word has its kind
+pub kind-there : (b : ℕ) (o : Option AtomKind) → Begins b o → begins_atom (atom_word (begun_by b)) ≡ true → IsSome o
+kind-there b (Some k) h e = refl
+kind-there b None h e = let l = kind-bounds (begun_by b) e in absurd (omega arith)
+
+pub kind-begun : (b : ℕ) (o : Option AtomKind) (k : AtomKind) → Begins b o → o ≡ Some k → kind_number k ≡ begun_by b
+kind-begun b o k h e = subst (Begins b) e h
 
 -- the atom of a kind: a permission, or a comparison
 module _ (a b : Name) where

@@ -1,11 +1,13 @@
 -- Atoms by number, as the tables number their kinds: the words, and what the grammar says of each.
-use Rattle.std.specs.Prelude.{Bool, cond, ◌||◌, List, [], ◌∷◌, ℕ, suc, eqb, length, get_or}
+use Rattle.std.specs.Prelude.{◌≡◌, Option, Some, None, Bool, cond, ◌||◌, List, [], ◌∷◌, ℕ, suc, eqb, length, get_or}
 use Prim.Native.String.{String}
 use Rattle.rules.specs.Base.{Name, bytes}
 use Rattle.rules.specs.Text.{is_rel, is_permit}
 use Rattle.rules.specs.Grammar.{Operand}
 use Rattle.rules.specs.Scope.{atom_operands}
+use Rattle.tables.specs.declared.kinds.AtomKind.{AtomKind}
 use Rattle.tables.specs.Numbers.{read_atom}
+use Rattle.tables.specs.Kinds.{kind_number}
 use Rattle.read_words.specs.Words.{packed}
 use Rattle.read_grammar.specs.Rows.{operands_number}
 use Rattle.read_atoms.specs.declared.Row.{Row}
@@ -41,6 +43,11 @@ begun_in (s ∷ ss) n b = let r : ℕ = begun_in ss (suc n) b in cond (eqb b (ge
 -- the kind of the atom whose word begins with the letter b, or 0
 unfoldable pub begun_by : ℕ → ℕ
 begun_by b = begun_in atom_words read_atom b
+
+-- what a letter begins, by its number
+abbrev pub Begins : ℕ → Option AtomKind → Type 0
+Begins b None = begun_by b ≡ 0
+Begins b (Some k) = kind_number k ≡ begun_by b
 
 -- Everything above computes where this unfolds.
 unfoldable pub opened : Unit {0}

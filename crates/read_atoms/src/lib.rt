@@ -2,7 +2,8 @@
 #![tactic(auto)]
 
 ghost use Rattle.std.specs.Prelude.{◌≡◌};
-ghost use Rattle.read_atoms.specs.Atoms.{row_with, atom_row, begun_by};
+ghost use Rattle.read_atoms.specs.Atoms.{row_with, atom_row, Begins};
+ghost use Rattle.tables.specs.Kinds.{kind_number};
 
 use read_grammar::OperandNumber;
 use tables::AtomKind;
@@ -65,30 +66,31 @@ fn columns(word: u64, bytes: usize, operands: u32, condition: bool) -> Row
     }
 }
 
-// The row of the atom of this kind (`AtomKind`). A number that is no kind has no operands.
-pub fn row_of(kind: usize) -> Row
-    ensures { result ≡ atom_row kind }
+// The row of the atom of this kind.
+// A match and no array: one function makes each row of the table from its columns.
+pub fn row_of(kind: AtomKind) -> Row
+    ensures { result ≡ atom_row (kind_number kind) }
 {
     match kind {
-        AtomKind::READ => columns(Packed::READ, Bytes::READ, PATH, false),
-        AtomKind::ACC => columns(Packed::ACC, Bytes::ACC, PATH, false),
-        AtomKind::CHAIN => columns(Packed::CHAIN, Bytes::CHAIN, PATH, false),
-        AtomKind::EQ => columns(Packed::EQ, Bytes::EQ, SIDES, true),
-        AtomKind::NE => columns(Packed::NE, Bytes::NE, SIDES, true),
-        _ => columns(0, 0, 0, false),
+        AtomKind::Read => columns(Packed::READ, Bytes::READ, PATH, false),
+        AtomKind::Acc => columns(Packed::ACC, Bytes::ACC, PATH, false),
+        AtomKind::Chain => columns(Packed::CHAIN, Bytes::CHAIN, PATH, false),
+        AtomKind::Eq => columns(Packed::EQ, Bytes::EQ, SIDES, true),
+        AtomKind::Ne => columns(Packed::NE, Bytes::NE, SIDES, true),
     }
 }
 
-// The kind of the atom whose word begins with this letter, or 0 and no Option: that is a number of a row too, which has no operands.
-pub fn begun_by(letter: u8) -> usize
-    ensures { result ≡ begun_by letter }
+// The kind of the atom whose word begins with this letter, which is no number of the kind.
+#[tactic(auto, unfolding(crate::specs::Atoms::opened, rules::specs::Base::opened))]
+pub fn begun_by(letter: u8) -> Option<AtomKind>
+    ensures { Begins letter result }
 {
     match letter {
-        b'r' => AtomKind::READ,
-        b'a' => AtomKind::ACC,
-        b'c' => AtomKind::CHAIN,
-        b'e' => AtomKind::EQ,
-        b'n' => AtomKind::NE,
-        _ => 0,
+        b'r' => Some(AtomKind::Read),
+        b'a' => Some(AtomKind::Acc),
+        b'c' => Some(AtomKind::Chain),
+        b'e' => Some(AtomKind::Eq),
+        b'n' => Some(AtomKind::Ne),
+        _ => None,
     }
 }

@@ -194,15 +194,15 @@ trailing (suc d) n = go (n % 2) refl (trailing d (n / 2))
         (p.0, twice n e ∙ (ap (λ m. m * 2) p.1 ∙ (mul_assoc p.0 (2 ^ t) 2 ∙ ap (λ m. p.0 * m) (sym (pow-suc 2 t)))))
     go (suc r) e p = (n, sym (mul-one n))
 
-zeros_of_lem : (j t q z : ℕ) → j * 8 ≤ t → z ≡ q * 2 ^ t → Zeros j z
-zeros_of_lem zero t q z h e = tt
-zeros_of_lem (suc j) t q z h e = (q * 2 ^ (t - 8), over (t - 8) (omega arith), zeros_of_lem j (t - 8) q (q * 2 ^ (t - 8)) (omega arith) refl)
+zeros-of : (j t q z : ℕ) → j * 8 ≤ t → z ≡ q * 2 ^ t → Zeros j z
+zeros-of zero t q z h e = tt
+zeros-of (suc j) t q z h e = (q * 2 ^ (t - 8), over (t - 8) (omega arith), zeros-of j (t - 8) q (q * 2 ^ (t - 8)) (omega arith) refl)
   where
     over : (u : ℕ) → t ≡ u + 8 → z ≡ q * 2 ^ u * 256
     over u d = e ∙ (ap (λ m. q * 2 ^ m) d ∙ (ap (λ m. q * m) (pow-add 2 u 8) ∙ sym (mul_assoc q (2 ^ u) 256)))
 
 pub trailing_zeros : (z : ℕ) → Zeros (count_trailing_zeros 64 z / 8) z
-trailing_zeros z = let p = trailing 64 z in zeros_of_lem (count_trailing_zeros 64 z / 8) (count_trailing_zeros 64 z) p.0 z (omega arith) p.1
+trailing_zeros z = let p = trailing 64 z in zeros-of (count_trailing_zeros 64 z / 8) (count_trailing_zeros 64 z) p.0 z (omega arith) p.1
 
 -- they are a power of 2 that can be divided out
 zeros-power : (j z : ℕ) → Zeros j z → (q : ℕ) × (z ≡ q * 2 ^ (j * 8))

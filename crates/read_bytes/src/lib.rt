@@ -56,6 +56,7 @@ fn between(b: u8, a: u8, z: u8) -> bool
     (a..=z).contains(&b)
 }
 
+#[tactic(auto, unfolding(rules::specs::Text::opened, rules::specs::Base::opened))]
 pub fn is_digit(b: u8) -> bool
     ensures { result ≡ digit b }
 {
@@ -154,6 +155,7 @@ fn find_wide(l: &[u8], at: usize, set: Set) -> usize
 }
 
 // The first place from `at` on whose byte is in the set, or the end. Lines, fields and names are searched in steps of eight bytes.
+// A match: a set that has no marks by words is searched byte by byte.
 pub fn find(l: &[u8], at: usize, set: Set) -> usize
     requires { at ≤ length l.now }
     ensures { FirstInSet l.now at set result }

@@ -45,20 +45,22 @@ impl Wide {
     const PAST_NINE: u64 = (0x7f - Byte::NINE as u64) * Wide::ONES;
 }
 
-// Eight bytes from i on as one number, the first lowest: each times its power of 256.
+// Eight bytes from i on as one number, the first lowest.
+#[tactic(auto, unfolding(crate::specs::Marks::little_endian))]
 pub fn word8(l: &[u8], i: usize) -> u64
     requires { i + wide_bytes ≤ length l.now }
     ensures { result ≡ little_endian (eight l.now i) }
 {
-    let a = l[i] as u64
-        + (l[i + 1] as u64) * 0x100
-        + (l[i + 2] as u64) * 0x10000
-        + (l[i + 3] as u64) * 0x1000000;
-    let b = (l[i + 4] as u64) * 0x100000000
-        + (l[i + 5] as u64) * 0x10000000000
-        + (l[i + 6] as u64) * 0x1000000000000
-        + (l[i + 7] as u64) * 0x100000000000000;
-    a + b
+    u64::from_le_bytes([
+        l[i],
+        l[i + 1],
+        l[i + 2],
+        l[i + 3],
+        l[i + 4],
+        l[i + 5],
+        l[i + 6],
+        l[i + 7],
+    ])
 }
 
 // Bit 7 of each byte that may end a field.
@@ -99,6 +101,7 @@ pub fn digit_marks(x: u64) -> u64
 }
 
 // Bit 7 of each byte that may be in the set.
+// A match and no closure: `form_of` names the form of each set.
 pub fn marks(x: u64, set: Set) -> u64
     ensures { result ≡ value ones x (form_of set) }
 {

@@ -17,6 +17,7 @@ use read_names::{Row, Span};
 use read_scan::Word;
 use read_scopes::Names;
 use rules::Kind;
+use tables::Area;
 
 // FIELDS OF A LINE
 
@@ -90,7 +91,7 @@ fn owner(c: Names) -> usize
     c.classes.saturating_sub(1)
 }
 
-fn declare_class(text: &[u8], work: &mut [u8], r: usize, c: Names) -> Names
+fn declare_class(text: &[u8], work: &mut Area, r: usize, c: Names) -> Names
     requires { TextFits text.now work.old c × (r ≤ length text.now) × (c.classes < most_classes) × NameAfter text.now r 0 }
     ensures { Adds text.now work.old c (line_with Class (more (drop r text.now))) work.new result }
 {
@@ -98,7 +99,7 @@ fn declare_class(text: &[u8], work: &mut [u8], r: usize, c: Names) -> Names
     read_scopes::add_class(text, work, c, name)
 }
 
-fn declare_field(text: &[u8], work: &mut [u8], r: usize, c: Names) -> Names
+fn declare_field(text: &[u8], work: &mut Area, r: usize, c: Names) -> Names
     requires { TextFits text.now work.old c × (r ≤ length text.now) × (c.fields < most_names) × NameAfter text.now r 0 × NameAfter text.now r 1 }
     ensures { Adds text.now work.old c (line_with Field (more (drop r text.now))) work.new result }
 {
@@ -123,7 +124,7 @@ pub fn method_row(text: &[u8], r: usize, owner: usize) -> Row
     }
 }
 
-fn declare_method(text: &[u8], work: &mut [u8], r: usize, c: Names) -> Names
+fn declare_method(text: &[u8], work: &mut Area, r: usize, c: Names) -> Names
     requires { TextFits text.now work.old c × (r ≤ length text.now) × (c.methods < most_methods) × NameAfter text.now r 0 × NameAfter text.now r 1 × NameAfter text.now r 2 }
     ensures { Adds text.now work.old c (line_with Method (more (drop r text.now))) work.new result }
 {
@@ -132,14 +133,15 @@ fn declare_method(text: &[u8], work: &mut [u8], r: usize, c: Names) -> Names
 }
 
 // The row of a line of this kind, if it declares something.
-fn declare_line(text: &[u8], work: &mut [u8], r: usize, kind: u8, c: Names) -> Names
+// A match and no closure: the three declare into rows of other forms, and the kind of the line says which.
+fn declare_line(text: &[u8], work: &mut Area, r: usize, kind: u8, c: Names) -> Names
     requires { TextFits text.now work.old c × LineReady text.now r kind c }
     ensures { Adds text.now work.old c (line_with (kind_numbered kind) (more (drop r text.now))) work.new result }
 {
-    match kind {
-        Kind::CLASS => declare_class(text, work, r, c),
-        Kind::FIELD => declare_field(text, work, r, c),
-        Kind::METHOD => declare_method(text, work, r, c),
+    match Kind::numbered(kind) {
+        Kind::Class => declare_class(text, work, r, c),
+        Kind::Field => declare_field(text, work, r, c),
+        Kind::Method => declare_method(text, work, r, c),
         _ => c,
     }
 }
@@ -160,8 +162,8 @@ fn no_names() -> Names
 }
 
 // The rows of all classes, fields and methods of a text that pass 1 takes, by its table of n lines.
-pub fn declare(text: &[u8], work: &mut [u8], n: usize) -> Names
-    requires { (length text.now ≤ most_bytes) × (length work.old ≡ work_bytes) × TextTaken text.now × LineTable text.now work.old n }
+pub fn declare(text: &[u8], work: &mut Area, n: usize) -> Names
+    requires { (length text.now ≤ most_bytes) × TextTaken text.now × LineTable text.now work.old n }
     ensures { Declares text.now work.old work.new result × Kept lines_at work_bytes work.old work.new }
 {
     let mut c = no_names();

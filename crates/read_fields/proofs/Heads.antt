@@ -27,8 +27,9 @@ use Rattle.read_grammar.specs.Rows.{operands_number}
 use Rattle.read_words.specs.Words.{packed}
 use Rattle.read_words.proofs.Words.{spelled}
 use Rattle.read_atoms.specs.declared.Row.{Row}
+use Rattle.read_atoms.specs.Atoms as Atoms
 use Rattle.read_atoms.specs.Atoms.{atom_word, begins_atom, operands_of, atom_row, begun_by}
-use Rattle.read_atoms.proofs.Atoms.{of-atom-word, atom-begins, some_bytes, word-told, word-solid, word-short}
+use Rattle.read_atoms.proofs.Atoms.{of-atom-word, atom-begins, some_bytes, word-told, word-solid, word-short, kind-bounds}
 use Rattle.read_fields.specs.Spans.{Span, FieldFits, operands_then, Spells, HeadIs, AtomHead, AtomEnd, OperandsRead, condition_first}
 use Rattle.read_fields.specs.declared.Head.{Head}
 use Rattle.std.proofs.Common.{Option, Some, None}
@@ -241,14 +242,14 @@ module _ (t : List ℕ) (r : ℕ) (g : get_or t r 0 ≡ 9) where
         after = i;
       }
 
+  pub head-empty : kind ≡ 0 → AtomHead t r None
+  head-empty z = unspelled (λ w x. let b = kind-bounds kind w in absurd (omega arith))
+
   -- by the row of that word
   module _ (q : Row) (e : q ≡ atom_row kind) where
     number : (b : Bool) → begins_atom begun ≡ b → q.operands ≡ operands_number (cond b (atom_operands begun) [])
     unfolding atom_row operands_of operands_number
     number b w = ap (λ q. q.operands) e ∙ rw w
-
-    pub head-empty : q.operands ≡ 0 → AtomHead t r None
-    head-empty z = unspelled (λ w x. operands-some begun (sym (number true w) ∙ z))
 
     module _ (s : Bool) (f : Spells t (r + 1) q.word q.bytes s) where
       by_row : s ≡ stands
@@ -339,3 +340,7 @@ module _ (t : List ℕ) (r : ℕ) (g : get_or t r 0 ≡ 9) where
           let i : is_rel s ≡ c = ap is_rel (only t r g s w x) ∙ (sym (ap (λ (q : Row). q.condition) row) ∙ h) in
           by _ (word_more t r g s w x) ∙ rw (e, i)
       go n false e = rw (e, and-false c) (and-false (is_rel (get_or (more (drop r t)) 0 [])))
+
+  pub condition-empty : kind t r g ≡ 0 → (n : ℕ) → condition_first n (more (drop r t)) ≡ false
+  unfolding Atoms.opened Base.opened Text.opened
+  condition-empty e n = condition-case (atom_row 0) (ap atom_row (sym e)) false refl n

@@ -146,9 +146,6 @@ pub record Walk (os : List Operand) (t : List ℕ) (from n r : ℕ) : Type 0 whe
   pub span : Span t from r
   pub is : (k : List Name → Bool) → operands_then os k (more (drop from t)) ≡ operands_then left k (more (drop r t))
 
-pub walk_start : {os : List Operand} {t : List ℕ} {from n : ℕ} → from ≤ length t → n ≡ operands_number os → Walk os t from n from
-walk_start {os} h e = record { left = os; number = e; span = span_none h; is = λ k. refl }
-
 module _ {os : List Operand} {t : List ℕ} {from n r : ℕ} (x : Walk os t from n r) where
   pub walk-done : n ≡ 0 → OperandsRead os t from (Some r)
   unfolding operands_then operands_number

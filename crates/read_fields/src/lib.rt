@@ -3,7 +3,7 @@
 
 ghost use Rattle.std.specs.Prelude.{◌≡◌, ◌+◌, ◌≤◌, eqb, length, get_or};
 ghost use Rattle.rules.specs.Text.{tab, is_formula};
-ghost use Rattle.rules.specs.Grammar.{IsKindNumber};
+ghost use Rattle.rules.specs.Numbered.{number};
 ghost use Rattle.read_bytes.specs.Marks.{wide_bytes};
 ghost use Rattle.read_fields.specs.Cuts.{NextField};
 ghost use Rattle.read_grammar.specs.Rows.{fits_operand, fits_tail};
@@ -11,7 +11,7 @@ ghost use Rattle.read_fields.specs.Spans.{NextFit, OperandsEnd, Spells, AtomHead
 
 use read_bytes::{Byte, Set};
 use read_grammar::{OperandNumber, TailNumber};
-use rules::Machine;
+use rules::{Kind, Machine};
 
 // FIELDS
 
@@ -94,10 +94,8 @@ fn atom_head(t: &[u8], r: usize) -> Option<Head>
     ensures { AtomHead t.now r result }
 {
     let a = r + 1;
-    let row = read_atoms::row_of(read_atoms::begun_by(read_bytes::byte_at(t, a)));
-    if row.operands == 0 {
-        return None;
-    }
+    let kind = read_atoms::begun_by(read_bytes::byte_at(t, a))?;
+    let row = read_atoms::row_of(kind);
     if !is_spelled(t, a, row.word, row.bytes) {
         return None;
     }
@@ -139,8 +137,8 @@ fn condition_end(t: &[u8], r: usize, most: usize) -> Option<usize>
     if read_bytes::byte_at(t, r) != Byte::TAB {
         return None;
     }
-    let row = read_atoms::row_of(read_atoms::begun_by(read_bytes::byte_at(t, r + 1)));
-    if !row.condition {
+    let kind = read_atoms::begun_by(read_bytes::byte_at(t, r + 1))?;
+    if !read_atoms::row_of(kind).condition {
         return None;
     }
     formula_end(t, r, most)
@@ -152,6 +150,8 @@ fn condition_end(t: &[u8], r: usize, most: usize) -> Option<usize>
 const LOOP_ATOMS: usize = 1 + Machine::ATOMS;
 
 // The fields after r, if they are the tail with this number.
+// A match and no closure: the row of the grammar has the tail as a number (`fits_tail`), and two of the forms take a limit.
+#[tactic(auto, unfolding(read_grammar::specs::Rows::fits_tail))]
 fn tail_end(tail: u32, t: &[u8], r: usize) -> Option<usize>
     requires { r ≤ length t.now }
     ensures { FieldsRead (fits_tail tail) t.now r result }
@@ -165,9 +165,10 @@ fn tail_end(tail: u32, t: &[u8], r: usize) -> Option<usize>
 }
 
 // The fields after the word, which ends at `from`, if they are those of a line of this kind.
-pub fn fields_end(t: &[u8], from: usize, kind: u8) -> Option<usize>
-    requires { (from ≤ length t.now) × IsKindNumber kind }
-    ensures { FieldsRead (formed_as kind) t.now from result }
+#[tactic(auto, unfolding(read_grammar::specs::Rows::row_of))]
+pub fn fields_end(t: &[u8], from: usize, kind: Kind) -> Option<usize>
+    requires { from ≤ length t.now }
+    ensures { FieldsRead (formed_as (number kind)) t.now from result }
 {
     let row = read_grammar::row_of(kind);
     let r = operands_end(t, from, row.operands)?;

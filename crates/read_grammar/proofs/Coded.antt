@@ -220,3 +220,6 @@ module _ (k : ℕ) (q : Place) (a : AfterWithin k q) where
 
   pub counts-statement : first_statement ≤ k → within_limits q ≡ (leb q.statements 256 && ltb q.branches 256)
   counts-statement h = rw a.after (late a.place (low a.place a.within) k h)
+
+-- what the limits say of each count, and what a line of each kind counts
+pub ruleset limits = (low, counts, counts-statement)

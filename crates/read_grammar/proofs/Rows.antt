@@ -3,7 +3,7 @@ use mathlib.Core.Path.{◌≡◌, refl, sym, ap, ◌∙◌}
 use mathlib.Core.Bool.{Bool, true, false, ◌&&◌}
 use mathlib.Core.List.{List, [], ◌∷◌}
 use mathlib.Core.Option.{Option, none, some}
-use Prim.Native.Nat.{ℕ, zero, suc, ◌/◌, ◌%◌, ◌≤◌, ◌<◌}
+use Prim.Native.Nat.{ℕ, ◌/◌, ◌%◌, ◌≤◌}
 use native.Mathlib.Omega.{arith}
 use lib.Dec.{T, eqb, leb, eqb→eq}
 use Rattle.rules.specs.Base.{Name, bind_option, with_default, all}
@@ -43,20 +43,6 @@ module _ (n : ℕ) (h : IsKindNumber n) where
   statement-numbered = statement-is (kind_numbered n) ∙ ap (leb first_statement) (number-of-kind n h)
 
 -- ROWS
-abbrev pub down : ℕ → List ℕ
-down zero = []
-down (suc m) = suc m ∷ down m
-
--- n is none of these
-abbrev pub NoneOf : ℕ → List ℕ → Type 0
-NoneOf n [] = Unit {0}
-NoneOf n (k ∷ ks) = NoneOf n ks × (n ≡ k → ⊥)
-
--- what the last arm of a `match` knows of a number, where the others are for 1 to m
-pub passed : (m n : ℕ) → 1 ≤ n → NoneOf n (down m) → m < n
-passed zero n h r = h
-passed (suc m) n h r = let l = passed m n h r.0 in omega (arith, l, r.1)
-
 abbrev pub unpacked : ℕ → Row
 unpacked n =
     record {

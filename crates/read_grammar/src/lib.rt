@@ -4,7 +4,8 @@
 mod places;
 
 ghost use Rattle.std.specs.Prelude.{◌≡◌};
-ghost use Rattle.rules.specs.Grammar.{form, IsKindNumber};
+ghost use Rattle.rules.specs.Grammar.{form};
+ghost use Rattle.rules.specs.Numbered.{number};
 ghost use Rattle.read_grammar.specs.Rows.{kind_numbered, row_of, row_number};
 
 pub use places::{first_place, is_in_place, is_within, place_after};
@@ -12,7 +13,8 @@ use rules::Kind;
 
 // THE ROW OF A KIND
 
-// The operands, by their numbers; several as one number to the base 16, the first lowest.
+// The operands, by their numbers; several as one number to the base 16, the first lowest. No enum, since an operand is a digit of a kind's row
+// (`operands_number`).
 #[derive(Clone, Copy)]
 pub struct OperandNumber {}
 
@@ -42,7 +44,8 @@ impl OperandNumber {
     pub const EXPRESSION: u32 = 11;
 }
 
-// What follows the operands, by its number; any other is a condition and then a formula.
+// What follows the operands, by its number; any other is a condition and then a formula. No enum, since it is a digit of a kind's row
+// (`tail_number`).
 #[derive(Clone, Copy)]
 pub struct TailNumber {}
 
@@ -91,41 +94,40 @@ impl Row {
 }
 
 // From the right: four operands, tail, first stage, last stage, next stage.
-fn row_number(kind: u8) -> u32
-    requires { IsKindNumber kind }
-    ensures { result ≡ row_number (row_of (form (kind_numbered kind))) }
+#[tactic(auto, unfolding(crate::specs::Rows::opened, read_words::specs::Words::opened, rules::specs::Grammar::opened, rules::specs::Base::opened, rules::specs::Places::stage_number))]
+fn row_number(kind: Kind) -> u32
+    ensures { result ≡ row_number (row_of (form (kind_numbered (number kind)))) }
 {
     match kind {
-        Kind::CLASS => 0x1200_0001,
-        Kind::FIELD => 0x1110_0025,
-        Kind::METHOD => 0x3210_4535,
-        Kind::REQUIRES => 0x4332_0000,
-        Kind::ENSURES => 0x5442_0000,
-        Kind::MAIN => 0x5200_0000,
-        Kind::VAR => 0x5550_0045,
-        Kind::SET => 0x6650_0797,
-        Kind::LET => 0x6650_00b8,
-        Kind::NEW => 0x6650_0068,
-        Kind::CALL => 0x6650_7a78,
-        Kind::RETURN => 0x7650_0007,
-        Kind::ASSERT => 0x6652_0000,
-        Kind::RELEASE => 0x6652_0000,
-        Kind::IF => 0x6651_0000,
-        Kind::ELSE => 0x6750_0000,
-        Kind::JOIN => 0x6752_0000,
-        Kind::END => 0x6750_0000,
-        Kind::ADD => 0x6650_0778,
-        Kind::SUB => 0x6650_0778,
-        Kind::LOOP => 0x6653_0000,
-        Kind::AGAIN => 0x6750_0000,
-        Kind::OPEN => 0x6650_0978,
-        _ => 0x6650_0097, // shut
+        Kind::Class => 0x1200_0001,
+        Kind::Field => 0x1110_0025,
+        Kind::Method => 0x3210_4535,
+        Kind::Requires => 0x4332_0000,
+        Kind::Ensures => 0x5442_0000,
+        Kind::Main => 0x5200_0000,
+        Kind::Var => 0x5550_0045,
+        Kind::Set => 0x6650_0797,
+        Kind::Let => 0x6650_00b8,
+        Kind::New => 0x6650_0068,
+        Kind::Call => 0x6650_7a78,
+        Kind::Return => 0x7650_0007,
+        Kind::Assert => 0x6652_0000,
+        Kind::Release => 0x6652_0000,
+        Kind::If => 0x6651_0000,
+        Kind::Else => 0x6750_0000,
+        Kind::Join => 0x6752_0000,
+        Kind::End => 0x6750_0000,
+        Kind::Add => 0x6650_0778,
+        Kind::Sub => 0x6650_0778,
+        Kind::Loop => 0x6653_0000,
+        Kind::Again => 0x6750_0000,
+        Kind::Open => 0x6650_0978,
+        Kind::Shut => 0x6650_0097,
     }
 }
 
-pub fn row_of(kind: u8) -> Row
-    requires { IsKindNumber kind }
-    ensures { result ≡ row_of (form (kind_numbered kind)) }
+pub fn row_of(kind: Kind) -> Row
+    ensures { result ≡ row_of (form (kind_numbered (number kind))) }
 {
     let n = row_number(kind);
     Row {
@@ -140,7 +142,8 @@ pub fn row_of(kind: u8) -> Row
 // THE PLACE OF A LINE
 
 // Where a line stands: the stage by its number, whether `main` is above, the open branches and loops as one number (`places::Open`), and
-// what the lines above have used of each limit.
+// what the lines above have used of each limit. That these fit (`within_limits`) is no fact of the type: `place_after` passes a limit before it
+// is tested (`AfterWithin`).
 #[derive(Clone, Copy)]
 pub struct Place {
     pub stage: u32,

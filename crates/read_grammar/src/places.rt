@@ -1,6 +1,7 @@
 // Where a line may stand, and the limits of the text (4, 5).
 ghost use Rattle.std.specs.Prelude.{◌≡◌, true, ◌≤◌, ◌<◌};
-ghost use Rattle.rules.specs.Grammar.{form, first_statement, IsKindNumber};
+ghost use Rattle.rules.specs.Grammar.{form, first_statement};
+ghost use Rattle.rules.specs.Numbered.{number};
 ghost use Rattle.rules.specs.Places.{first_place, stage_number};
 ghost use Rattle.read_grammar.specs.Rows.{kind_numbered};
 ghost use Rattle.read_grammar.specs.Coded.{open_limit, coded, fits, in_place, stage_after, branches_after, place_after, within_limits, AfterWithin};
@@ -25,6 +26,7 @@ impl Open {
     const LIMIT: usize = 1 << (2 * Machine::BRANCHES);
 }
 
+#[tactic(auto, unfolding(crate::specs::Coded::coded, crate::specs::Coded::branches_number, rules::specs::Places::stage_number))]
 pub fn first_place() -> Place
     ensures { result ≡ coded first_place }
 {
@@ -41,22 +43,23 @@ pub fn first_place() -> Place
 }
 
 // "`return x` (methods only)"; `else`, `join`, `again` and `end` go by the innermost open branch or loop.
-fn fits(kind: u8, p: Place) -> bool
-    ensures { result ≡ fits kind p }
+#[tactic(auto, unfolding(crate::specs::Coded::fits))]
+fn fits(kind: Kind, p: Place) -> bool
+    ensures { result ≡ fits (number kind) p }
 {
     match kind {
-        Kind::RETURN => !p.main,
-        Kind::ELSE => p.branches % Open::BASE == Open::BEFORE_ELSE,
-        Kind::JOIN => p.branches % Open::BASE == Open::AFTER_ELSE,
-        Kind::AGAIN => p.branches % Open::BASE == Open::LOOP,
-        Kind::END => p.branches == 0,
+        Kind::Return => !p.main,
+        Kind::Else => p.branches % Open::BASE == Open::BEFORE_ELSE,
+        Kind::Join => p.branches % Open::BASE == Open::AFTER_ELSE,
+        Kind::Again => p.branches % Open::BASE == Open::LOOP,
+        Kind::End => p.branches == 0,
         _ => true,
     }
 }
 
-pub fn is_in_place(kind: u8, p: Place) -> bool
-    requires { IsKindNumber kind }
-    ensures { result ≡ in_place kind p }
+#[tactic(auto, unfolding(crate::specs::Coded::in_place, crate::specs::Rows::row_of, rules::specs::Base::between))]
+pub fn is_in_place(kind: Kind, p: Place) -> bool
+    ensures { result ≡ in_place (number kind) p }
 {
     let row = crate::row_of(kind);
     if p.stage < row.first {
@@ -68,10 +71,11 @@ pub fn is_in_place(kind: u8, p: Place) -> bool
     fits(kind, p)
 }
 
-fn stage_after(kind: u8, main: bool, next: u32) -> u32
-    ensures { result ≡ stage_after kind main next }
+#[tactic(auto, unfolding(crate::specs::Coded::stage_after, rules::specs::Places::stage_number))]
+fn stage_after(kind: Kind, main: bool, next: u32) -> u32
+    ensures { result ≡ stage_after (number kind) main next }
 {
-    if kind != Kind::END {
+    if kind != Kind::End {
         return next;
     }
     if main {
@@ -81,24 +85,26 @@ fn stage_after(kind: u8, main: bool, next: u32) -> u32
     }
 }
 
-fn branches_after(kind: u8, n: usize) -> usize
+#[tactic(auto, unfolding(crate::specs::Coded::branches_after))]
+fn branches_after(kind: Kind, n: usize) -> usize
     requires { n < open_limit }
-    ensures { result ≡ branches_after kind n }
+    ensures { result ≡ branches_after (number kind) n }
 {
     match kind {
-        Kind::IF => Open::BEFORE_ELSE + Open::BASE * n,
-        Kind::ELSE => Open::AFTER_ELSE + Open::BASE * (n / Open::BASE),
-        Kind::JOIN => n / Open::BASE,
-        Kind::LOOP => Open::LOOP + Open::BASE * n,
-        Kind::AGAIN => n / Open::BASE,
+        Kind::If => Open::BEFORE_ELSE + Open::BASE * n,
+        Kind::Else => Open::AFTER_ELSE + Open::BASE * (n / Open::BASE),
+        Kind::Join => n / Open::BASE,
+        Kind::Loop => Open::LOOP + Open::BASE * n,
+        Kind::Again => n / Open::BASE,
         _ => n,
     }
 }
 
 // One statement more, which may open or close a branch or a loop, or end the body.
-fn with_statement(p: Place, kind: u8, next: u32) -> Place
-    requires { (first_statement ≤ kind) × (next ≡ stage_number (form (kind_numbered kind)).next) × (within_limits p ≡ true) }
-    ensures { result ≡ place_after kind p }
+#[tactic(auto, using(crate::proofs::Coded::limits), unfolding(crate::specs::Coded::place_after, rules::specs::Places::one_more_if))]
+fn with_statement(p: Place, kind: Kind, next: u32) -> Place
+    requires { (first_statement ≤ number kind) × (next ≡ stage_number (form (kind_numbered (number kind))).next) × (within_limits p ≡ true) }
+    ensures { result ≡ place_after (number kind) p }
 {
     let stage = stage_after(kind, p.main, next);
     let branches = branches_after(kind, p.branches);
@@ -110,38 +116,39 @@ fn with_statement(p: Place, kind: u8, next: u32) -> Place
     }
 }
 
-pub fn place_after(kind: u8, p: Place) -> Place
-    requires { IsKindNumber kind × (within_limits p ≡ true) }
-    ensures { result ≡ place_after kind p }
+#[tactic(auto, using(crate::proofs::Coded::limits), unfolding(crate::specs::Rows::row_of, crate::specs::Coded::place_after, crate::specs::Coded::stage_after, crate::specs::Coded::branches_after, rules::specs::Places::one_more_if))]
+pub fn place_after(kind: Kind, p: Place) -> Place
+    requires { within_limits p ≡ true }
+    ensures { result ≡ place_after (number kind) p }
 {
     let row = crate::row_of(kind);
     let stage = row.next;
     let q = Place { stage, ..p };
     match kind {
         // with no field yet
-        Kind::CLASS => Place {
+        Kind::Class => Place {
             classes: p.classes + 1,
             fields: 0,
             ..q
         },
-        Kind::FIELD => Place {
+        Kind::Field => Place {
             fields: p.fields + 1,
             ..q
         },
         // with no local yet
-        Kind::METHOD => Place {
+        Kind::Method => Place {
             methods: p.methods + 1,
             locals: 0,
             ..q
         },
-        Kind::REQUIRES => q,
-        Kind::ENSURES => q,
-        Kind::MAIN => Place {
+        Kind::Requires => q,
+        Kind::Ensures => q,
+        Kind::Main => Place {
             main: true,
             locals: 0,
             ..q
         },
-        Kind::VAR => Place {
+        Kind::Var => Place {
             locals: p.locals + 1,
             ..q
         },
@@ -150,18 +157,19 @@ pub fn place_after(kind: u8, p: Place) -> Place
 }
 
 // Is the place after a line of this kind within the limits? Only what the line counts can have passed its limit.
-pub fn is_within(q: Place, kind: u8) -> bool
-    requires { (1 ≤ kind) × AfterWithin kind q }
+#[tactic(auto, using(crate::proofs::Coded::limits), unfolding(crate::proofs::Coded::counted))]
+pub fn is_within(q: Place, kind: Kind) -> bool
+    requires { AfterWithin (number kind) q }
     ensures { result ≡ within_limits q }
 {
     match kind {
-        Kind::CLASS => q.classes <= Machine::CLASSES,
-        Kind::FIELD => q.fields <= Machine::CLASS_FIELDS,
-        Kind::METHOD => q.methods <= Machine::METHODS,
-        Kind::REQUIRES => true,
-        Kind::ENSURES => true,
-        Kind::MAIN => true,
-        Kind::VAR => q.locals <= Machine::LOCALS,
+        Kind::Class => q.classes <= Machine::CLASSES,
+        Kind::Field => q.fields <= Machine::CLASS_FIELDS,
+        Kind::Method => q.methods <= Machine::METHODS,
+        Kind::Requires => true,
+        Kind::Ensures => true,
+        Kind::Main => true,
+        Kind::Var => q.locals <= Machine::LOCALS,
         _ => {
             if Machine::STATEMENTS < q.statements {
                 return false;

@@ -3,9 +3,8 @@
 
 mod members;
 
-ghost use Rattle.std.specs.Prelude.{◌≡◌, map, ◌+◌, ◌≤◌, length};
+ghost use Rattle.std.specs.Prelude.{◌≡◌, map, ◌+◌, ◌≤◌};
 ghost use Rattle.rules.specs.Base.{is, eq_name};
-ghost use Rattle.rules.specs.Limits.{work_bytes};
 ghost use Rattle.rules.specs.Syntax.{result_variable};
 ghost use Rattle.rules.specs.Names.{class_number, is_class, is_type, variable_type};
 ghost use Rattle.read_names.specs.Rows.{most_rows, name_in};
@@ -17,9 +16,11 @@ pub use members::{
 };
 use read_names::{Row, Span};
 use read_scopes::{Above, Names, Range};
+use tables::Area;
 
 // CLASSES AND TYPES
 
+#[tactic(auto, unfolding(rules::specs::Base::is, rules::specs::Base::bytes))]
 fn is_int_word(x: &[u8]) -> bool
     ensures { result ≡ is "int" x.now }
 {
@@ -41,16 +42,17 @@ pub fn same_name(text: &[u8], s: Span, u: Span) -> bool
 }
 
 // The number of the first class that is named x; the count of classes if there is none (`class_number`).
-pub fn class_number(text: &[u8], work: &[u8], c: Names, x: &[u8]) -> usize
-    requires { (length work.now ≡ work_bytes) × NamesFit c }
+pub fn class_number(text: &[u8], work: &Area, c: Names, x: &[u8]) -> usize
+    requires { NamesFit c }
     ensures { (result ≡ class_number (declarations_in text.now work.now c) x.now) × (result ≤ c.classes) }
 {
     let n = c.classes;
     read_names::find(text, work, read_names::CLASSES, n, read_names::ANY_OWNER, x)
 }
 
-pub fn is_class(text: &[u8], work: &[u8], c: Names, x: &[u8]) -> bool
-    requires { (length work.now ≡ work_bytes) × NamesFit c }
+#[tactic(auto, unfolding(rules::specs::Names::is_class))]
+pub fn is_class(text: &[u8], work: &Area, c: Names, x: &[u8]) -> bool
+    requires { NamesFit c }
     ensures { result ≡ is_class (declarations_in text.now work.now c) x.now }
 {
     if read_words::is_reserved(x) {
@@ -59,8 +61,9 @@ pub fn is_class(text: &[u8], work: &[u8], c: Names, x: &[u8]) -> bool
     class_number(text, work, c, x) < c.classes
 }
 
-pub fn is_type(text: &[u8], work: &[u8], c: Names, x: &[u8]) -> bool
-    requires { (length work.now ≡ work_bytes) × NamesFit c }
+#[tactic(auto, unfolding(rules::specs::Names::is_type))]
+pub fn is_type(text: &[u8], work: &Area, c: Names, x: &[u8]) -> bool
+    requires { NamesFit c }
     ensures { result ≡ is_type (declarations_in text.now work.now c) x.now }
 {
     if is_int_word(x) {
@@ -72,8 +75,8 @@ pub fn is_type(text: &[u8], work: &[u8], c: Names, x: &[u8]) -> bool
 // VARIABLES
 
 // Of n variables from the number `from` on, and `result` if the line may name it.
-fn own_variable(text: &[u8], work: &[u8], from: usize, n: usize, res: bool, x: &[u8]) -> usize
-    requires { (length work.now ≡ work_bytes) × (from + n ≤ result_variable) }
+fn own_variable(text: &[u8], work: &Area, from: usize, n: usize, res: bool, x: &[u8]) -> usize
+    requires { from + n ≤ result_variable }
     ensures { Looked text.now work.now (own_in text.now work.now from n res) x.now result }
 {
     let i = read_names::find(
@@ -97,8 +100,9 @@ fn own_variable(text: &[u8], work: &[u8], from: usize, n: usize, res: bool, x: &
 }
 
 // The number of the variable that is named x, or NO_VARIABLE and no Option: `variable_number` of the rules numbers every name.
-pub fn variable(text: &[u8], work: &[u8], c: Names, x: &[u8]) -> usize
-    requires { (length work.now ≡ work_bytes) × NamesFit c }
+#[tactic(auto, unfolding(read_scopes::specs::Meanings::variables_in, read_scopes::specs::Meanings::block_in, read_scopes::specs::Meanings::own_variables, crate::specs::LookUps::own_in, rules::specs::Base::bytes))]
+pub fn variable(text: &[u8], work: &Area, c: Names, x: &[u8]) -> usize
+    requires { NamesFit c }
     ensures { Looked text.now work.now (variables_in text.now work.now c) x.now result }
 {
     let n = c.locals;
@@ -113,8 +117,9 @@ pub fn variable(text: &[u8], work: &[u8], c: Names, x: &[u8]) -> usize
 }
 
 // The type of the variable v.
-pub fn type_of(work: &[u8], v: usize) -> Span
-    requires { (length work.now ≡ work_bytes) × (v ≤ no_variable) }
+#[tactic(auto, unfolding(crate::specs::LookUps::type_of))]
+pub fn type_of(work: &Area, v: usize) -> Span
+    requires { v ≤ no_variable }
     ensures { result ≡ type_of work.now v }
 {
     if v == read_names::NO_VARIABLE {
@@ -123,8 +128,8 @@ pub fn type_of(work: &[u8], v: usize) -> Span
     read_names::gives_at(work, read_names::VARIABLES + v)
 }
 
-pub fn variable_type(text: &[u8], work: &[u8], c: Names, x: &[u8]) -> Span
-    requires { (length work.now ≡ work_bytes) × NamesFit c }
+pub fn variable_type(text: &[u8], work: &Area, c: Names, x: &[u8]) -> Span
+    requires { NamesFit c }
     ensures { name_in text.now result ≡ variable_type (variables_in text.now work.now c) x.now }
 {
     let v = variable(text, work, c, x);
@@ -134,8 +139,9 @@ pub fn variable_type(text: &[u8], work: &[u8], c: Names, x: &[u8]) -> Span
 // NEW NAMES
 
 // Is x no reserved word, and no name of n rows from `from` on?
-pub fn is_new(text: &[u8], work: &[u8], from: usize, n: usize, x: &[u8]) -> bool
-    requires { (length work.now ≡ work_bytes) × (from + n ≤ most_rows) }
+#[tactic(auto, unfolding(crate::specs::LookUps::is_new))]
+pub fn is_new(text: &[u8], work: &Area, from: usize, n: usize, x: &[u8]) -> bool
+    requires { from + n ≤ most_rows }
     ensures { result ≡ is_new x.now (names_from text.now work.now from n) }
 {
     if read_words::is_reserved(x) {
@@ -144,8 +150,8 @@ pub fn is_new(text: &[u8], work: &[u8], from: usize, n: usize, x: &[u8]) -> bool
     read_names::find(text, work, from, n, read_names::ANY_OWNER, x) == n
 }
 
-pub fn is_new_variable(text: &[u8], work: &[u8], c: Names, x: &[u8]) -> bool
-    requires { (length work.now ≡ work_bytes) × NamesFit c }
+pub fn is_new_variable(text: &[u8], work: &Area, c: Names, x: &[u8]) -> bool
+    requires { NamesFit c }
     ensures { result ≡ is_new x.now (map (λ v. v.name) (block_in text.now work.now c).variables) }
 {
     let n = c.locals;
@@ -168,8 +174,8 @@ pub fn is_new_variable(text: &[u8], work: &[u8], c: Names, x: &[u8]) -> bool
 }
 
 // May a line declare a variable of this name and of this type?
-pub fn may_declare(text: &[u8], work: &[u8], c: Names, name: Span, gives: Span) -> bool
-    requires { (length work.now ≡ work_bytes) × NamesFit c }
+pub fn may_declare(text: &[u8], work: &Area, c: Names, name: Span, gives: Span) -> bool
+    requires { NamesFit c }
     ensures { result ≡ may_declare text.now work.now c name gives }
 {
     if is_type(text, work, c, read_names::name_in(text, gives)) {
@@ -179,8 +185,8 @@ pub fn may_declare(text: &[u8], work: &[u8], c: Names, name: Span, gives: Span) 
 }
 
 // The same of n rows of this range, those of its kind beginning at `from`.
-pub fn is_new_member(text: &[u8], work: &[u8], from: usize, r: Range, x: &[u8]) -> bool
-    requires { (length work.now ≡ work_bytes) × (from + r.first + r.count ≤ most_rows) }
+pub fn is_new_member(text: &[u8], work: &Area, from: usize, r: Range, x: &[u8]) -> bool
+    requires { from + r.first + r.count ≤ most_rows }
     ensures { result ≡ is_new x.now (names_from text.now work.now (from + r.first) r.count) }
 {
     is_new(text, work, from + r.first, r.count, x)
@@ -189,14 +195,14 @@ pub fn is_new_member(text: &[u8], work: &[u8], from: usize, r: Range, x: &[u8]) 
 // May a class with the members of this range have one more, of this name and of this type?
 fn may_add(
     text: &[u8],
-    work: &[u8],
+    work: &Area,
     c: Names,
     from: usize,
     r: Range,
     name: Span,
     gives: Span,
 ) -> bool
-    requires { (length work.now ≡ work_bytes) × NamesFit c × (from + r.first + r.count ≤ most_rows) }
+    requires { NamesFit c × (from + r.first + r.count ≤ most_rows) }
     ensures { result ≡ may_add text.now work.now c (from + r.first) r.count name gives }
 {
     if is_type(text, work, c, read_names::name_in(text, gives)) {
@@ -206,8 +212,9 @@ fn may_add(
 }
 
 // May the present class have a field of this name and of this type?
-pub fn may_add_field(text: &[u8], work: &[u8], c: Names, a: Above, name: Span, gives: Span) -> bool
-    requires { (length work.now ≡ work_bytes) × NamesFit c × AboveFits a }
+#[tactic(auto, unfolding(read_scopes::specs::Meanings::scope_in))]
+pub fn may_add_field(text: &[u8], work: &Area, c: Names, a: Above, name: Span, gives: Span) -> bool
+    requires { NamesFit c × AboveFits a }
     ensures { result ≡ may_add_field text.now work.now c a name gives }
 {
     let r = a.fields;
@@ -215,8 +222,9 @@ pub fn may_add_field(text: &[u8], work: &[u8], c: Names, a: Above, name: Span, g
 }
 
 // May it have the method m, with a parameter of this name? The parameter passes the tests of `may_declare`.
-pub fn may_add_method(text: &[u8], work: &[u8], c: Names, a: Above, m: Row, parameter: Span) -> bool
-    requires { (length work.now ≡ work_bytes) × NamesFit c × AboveFits a }
+#[tactic(auto, unfolding(read_scopes::specs::Meanings::scope_in))]
+pub fn may_add_method(text: &[u8], work: &Area, c: Names, a: Above, m: Row, parameter: Span) -> bool
+    requires { NamesFit c × AboveFits a }
     ensures { result ≡ may_add_method text.now work.now c a m parameter }
 {
     let r = a.methods;

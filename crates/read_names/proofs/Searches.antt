@@ -5,7 +5,7 @@ use mathlib.Core.List.{List, [], ◌∷◌, ◌++◌}
 use mathlib.Core.Option.{some}
 use Prim.Native.Nat.{ℕ, zero, suc, ◌+◌, ◌-◌, ◌≤◌, ◌<◌}
 use native.Mathlib.Omega.{arith}
-use native.Mathlib.Nat.{add-zero, zero-add}
+use native.Mathlib.Nat.{add-zero}
 use lib.Dec.{eqb, ltb, eqb-zero-suc, eqb-suc-zero, eqb-suc-suc, leb-suc-suc}
 use lib.ListN.{length, get_or}
 use borrow.Author.Tests.{lt-ltb}
@@ -17,12 +17,6 @@ use Rattle.tables.proofs.Runs.{run_length}
 module _ {A : Type 0} (p : A → Bool) (f : ℕ → A) (from n : ℕ) where
   abbrev pub At : ℕ → Type 0
   At i = i + index p (run f (from + i) (n - i)) ≡ index p (run f from n)
-
-  pub begin : At 0
-  begin =
-      let z : from + 0 ≡ from = omega arith in
-      let m : n - 0 ≡ n = omega arith in
-      zero-add _ ∙ rw (z, m)
 
   pub here : (i : ℕ) → At i → i < n → p (f (from + i)) ≡ true → i ≡ index p (run f from n)
   unfolding run index

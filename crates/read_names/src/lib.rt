@@ -3,13 +3,12 @@
 
 ghost use Rattle.std.specs.Prelude.{◌≡◌, true, false, ◌||◌, eqb, ◌+◌, ◌*◌, ◌≤◌, ◌<◌, length};
 ghost use Rattle.rules.specs.Base.{index};
-ghost use Rattle.rules.specs.Limits.{work_bytes};
 ghost use Rattle.tables.specs.Decode.{run};
 ghost use Rattle.read_bytes.specs.Marks.{byte_values};
 ghost use Rattle.read_names.specs.Rows.{most_rows, span_bytes, name_in, span_at, no_span, owner_at, written_at, gives_at, takes_at, key_of, key_at, name_at, entry_at, is_entry, NextKey, any_owner, SpanFits, RowFits, put_span, put_row};
 
 use rules::Machine;
-use tables::Layout;
+use tables::{Area, Layout};
 
 // A name by its place in the text.
 #[derive(Clone, Copy)]
@@ -88,7 +87,7 @@ pub fn no_span() -> Span
     Span { start: 0, len: 0 }
 }
 
-fn span_at(work: &[u8], at: usize) -> Span
+fn span_at(work: &Area, at: usize) -> Span
     requires { at + span_bytes ≤ length work.now }
     ensures { (result ≡ span_at work.now at) × SpanFits result }
 {
@@ -97,22 +96,22 @@ fn span_at(work: &[u8], at: usize) -> Span
     Span { start, len }
 }
 
-pub fn owner_at(work: &[u8], i: usize) -> usize
-    requires { (length work.now ≡ work_bytes) × (i < most_rows) }
+pub fn owner_at(work: &Area, i: usize) -> usize
+    requires { i < most_rows }
     ensures { result ≡ owner_at work.now i }
 {
     tables::byte_at(work, Layout::NAMES + i * Row::BYTES)
 }
 
-fn written_at(work: &[u8], i: usize) -> Span
-    requires { (length work.now ≡ work_bytes) × (i < most_rows) }
+fn written_at(work: &Area, i: usize) -> Span
+    requires { i < most_rows }
     ensures { (result ≡ written_at work.now i) × SpanFits result }
 {
     span_at(work, Layout::NAMES + i * Row::BYTES + Row::NAME)
 }
 
-fn key_at(work: &[u8], i: usize) -> usize
-    requires { (length work.now ≡ work_bytes) × (i < most_rows) }
+fn key_at(work: &Area, i: usize) -> usize
+    requires { i < most_rows }
     ensures { result ≡ key_at work.now i }
 {
     tables::byte_at(work, Layout::NAMES + i * Row::BYTES + Row::KEY)
@@ -124,6 +123,7 @@ const KEY_FACTOR: usize = 10;
 const KEYS: usize = 256;
 
 // The key of a name.
+#[tactic(auto, unfolding(crate::specs::Rows::key_of))]
 fn key(x: &[u8]) -> usize
     ensures { (result ≡ key_of x.now) × (result < byte_values) }
 {
@@ -135,8 +135,8 @@ fn key(x: &[u8]) -> usize
 }
 
 // The name of the row i, which fits a row.
-pub fn name_at(text: &[u8], work: &[u8], i: usize) -> Span
-    requires { (length work.now ≡ work_bytes) × (i < most_rows) }
+pub fn name_at(text: &[u8], work: &Area, i: usize) -> Span
+    requires { i < most_rows }
     ensures { (result ≡ name_at text.now work.now i) × SpanFits result }
 {
     let s = written_at(work, i);
@@ -147,16 +147,16 @@ pub fn name_at(text: &[u8], work: &[u8], i: usize) -> Span
 }
 
 // The type that it gives.
-pub fn gives_at(work: &[u8], i: usize) -> Span
-    requires { (length work.now ≡ work_bytes) × (i < most_rows) }
+pub fn gives_at(work: &Area, i: usize) -> Span
+    requires { i < most_rows }
     ensures { result ≡ gives_at work.now i }
 {
     span_at(work, Layout::NAMES + i * Row::BYTES + Row::GIVES)
 }
 
 // The type that it takes.
-pub fn takes_at(work: &[u8], i: usize) -> Span
-    requires { (length work.now ≡ work_bytes) × (i < most_rows) }
+pub fn takes_at(work: &Area, i: usize) -> Span
+    requires { i < most_rows }
     ensures { result ≡ takes_at work.now i }
 {
     span_at(work, Layout::NAMES + i * Row::BYTES + Row::TAKES)
@@ -164,7 +164,8 @@ pub fn takes_at(work: &[u8], i: usize) -> Span
 
 // STORES
 
-fn put_span(work: &mut [u8], at: usize, s: Span)
+#[tactic(auto, unfolding(crate::specs::Rows::put_span))]
+fn put_span(work: &mut Area, at: usize, s: Span)
     requires { (at + span_bytes ≤ length work.old) × SpanFits s }
     ensures { work.new ≡ put_span work.old at s }
 {
@@ -173,8 +174,9 @@ fn put_span(work: &mut [u8], at: usize, s: Span)
 }
 
 // Writes the row i.
-pub fn put_row(text: &[u8], work: &mut [u8], i: usize, r: Row)
-    requires { (length work.old ≡ work_bytes) × (i < most_rows) × RowFits r }
+#[tactic(auto, unfolding(crate::specs::Rows::put_row))]
+pub fn put_row(text: &[u8], work: &mut Area, i: usize, r: Row)
+    requires { (i < most_rows) × RowFits r }
     ensures { work.new ≡ put_row text.now work.old i r }
 {
     let at = Layout::NAMES + i * Row::BYTES;
@@ -190,8 +192,8 @@ pub fn put_row(text: &[u8], work: &mut [u8], i: usize, r: Row)
 
 // THE SEARCH
 
-fn is_owned(work: &[u8], i: usize, owner: usize) -> bool
-    requires { (length work.now ≡ work_bytes) × (i < most_rows) }
+fn is_owned(work: &Area, i: usize, owner: usize) -> bool
+    requires { i < most_rows }
     ensures { result ≡ (eqb owner any_owner || eqb (owner_at work.now i) owner) }
 {
     if owner == ANY_OWNER {
@@ -201,8 +203,9 @@ fn is_owned(work: &[u8], i: usize, owner: usize) -> bool
 }
 
 // Is the row i named x, and of this owner?
-fn is_row(text: &[u8], work: &[u8], i: usize, owner: usize, x: &[u8]) -> bool
-    requires { (length work.now ≡ work_bytes) × (i < most_rows) }
+#[tactic(auto, unfolding(crate::specs::Rows::is_entry, crate::specs::Rows::entry_at))]
+fn is_row(text: &[u8], work: &Area, i: usize, owner: usize, x: &[u8]) -> bool
+    requires { i < most_rows }
     ensures { result ≡ is_entry owner x.now (entry_at text.now work.now i) }
 {
     if !is_owned(work, i, owner) {
@@ -213,8 +216,8 @@ fn is_row(text: &[u8], work: &[u8], i: usize, owner: usize, x: &[u8]) -> bool
 }
 
 // Each row is compared.
-fn find_each(text: &[u8], work: &[u8], first: usize, count: usize, owner: usize, x: &[u8]) -> usize
-    requires { (length work.now ≡ work_bytes) × (first + count ≤ most_rows) }
+fn find_each(text: &[u8], work: &Area, first: usize, count: usize, owner: usize, x: &[u8]) -> usize
+    requires { first + count ≤ most_rows }
     ensures { (result ≡ index (is_entry owner x.now) (run (entry_at text.now work.now) first count)) × (result ≤ count) }
 {
     for i in 0..count {
@@ -226,8 +229,8 @@ fn find_each(text: &[u8], work: &[u8], first: usize, count: usize, owner: usize,
 }
 
 // From the row `from` of a range on, the first that has this key.
-fn next_key(work: &[u8], first: usize, count: usize, from: usize, k: usize) -> Option<usize>
-    requires { (length work.now ≡ work_bytes) × (first + count ≤ most_rows) × (from ≤ count) }
+fn next_key(work: &Area, first: usize, count: usize, from: usize, k: usize) -> Option<usize>
+    requires { (first + count ≤ most_rows) × (from ≤ count) }
     ensures { NextKey work.now first count from k result }
 {
     for i in from..count {
@@ -239,8 +242,9 @@ fn next_key(work: &[u8], first: usize, count: usize, from: usize, k: usize) -> O
 }
 
 // Is the row i, which has the key of x, named x, and of this owner?
-fn is_keyed_row(text: &[u8], work: &[u8], i: usize, owner: usize, x: &[u8]) -> bool
-    requires { (length work.now ≡ work_bytes) × (i < most_rows) × (0 < length x.now) × (key_at work.now i ≡ key_of x.now) }
+#[tactic(auto, unfolding(crate::specs::Rows::is_entry, crate::specs::Rows::entry_at))]
+fn is_keyed_row(text: &[u8], work: &Area, i: usize, owner: usize, x: &[u8]) -> bool
+    requires { (i < most_rows) × (0 < length x.now) × (key_at work.now i ≡ key_of x.now) }
     ensures { result ≡ is_entry owner x.now (entry_at text.now work.now i) }
 {
     if !is_owned(work, i, owner) {
@@ -251,8 +255,8 @@ fn is_keyed_row(text: &[u8], work: &[u8], i: usize, owner: usize, x: &[u8]) -> b
 }
 
 // Rows that have the key of x are compared. x is not empty, so that no row without a name is named x.
-fn find_keyed(text: &[u8], work: &[u8], first: usize, count: usize, owner: usize, x: &[u8]) -> usize
-    requires { (length work.now ≡ work_bytes) × (first + count ≤ most_rows) × (0 < length x.now) }
+fn find_keyed(text: &[u8], work: &Area, first: usize, count: usize, owner: usize, x: &[u8]) -> usize
+    requires { (first + count ≤ most_rows) × (0 < length x.now) }
     ensures { (result ≡ index (is_entry owner x.now) (run (entry_at text.now work.now) first count)) × (result ≤ count) }
 {
     let k = key(x);
@@ -268,8 +272,8 @@ fn find_keyed(text: &[u8], work: &[u8], first: usize, count: usize, owner: usize
 
 // Where in a range of rows the first that is named x, and of this owner, stands; the range's length if there is none, and no Option: the
 // contract is the rules' `index`.
-pub fn find(text: &[u8], work: &[u8], first: usize, count: usize, owner: usize, x: &[u8]) -> usize
-    requires { (length work.now ≡ work_bytes) × (first + count ≤ most_rows) }
+pub fn find(text: &[u8], work: &Area, first: usize, count: usize, owner: usize, x: &[u8]) -> usize
+    requires { first + count ≤ most_rows }
     ensures { (result ≡ index (is_entry owner x.now) (run (entry_at text.now work.now) first count)) × (result ≤ count) }
 {
     if x.len() == 0 {

@@ -84,9 +84,9 @@ module _ (t : Name) where
   unfolding first_field
   digits-end r e = rw (e, begin-led t (digits_in t) (omega arith))
 
-  no_digit_lem : digits_in t < 10 → digits_in t < field_length t → digit (get_or (first_field t) (digits_in t) 0) ≡ false
+  no-digit : digits_in t < 10 → digits_in t < field_length t → digit (get_or (first_field t) (digits_in t) 0) ≡ false
   unfolding digits_in first_field
-  no_digit_lem m h =
+  no-digit m h =
       let f : no_digit (get_or (take 10 t) (digits_in t) 0) ≡ true = up_to-found no_digit (take 10 t) (omega (arith, length-take 10 t, field-long t, length-take (field_length t) t)) in
       rw (get_or-take (field_length t) t (digits_in t) 0 h) (not-true _ (rw (get_or-take 10 t (digits_in t) 0 m) at f))
 
@@ -94,7 +94,7 @@ module _ (t : Name) where
   digits-go-on : (r : ℕ) → r ≤ 1 → digits_in t < field_length t → (is_digits (first_field t) && in_range r (decimal 0 (first_field t))) ≡ false
   digits-go-on r f h =
       elim (dec_lt (digits_in t) 10) [
-        | yes m ↦ rw (digits-form (first_field t), not-all digit (first_field t) (digits_in t) (rw (field-long t) h) (no_digit_lem m h), and-false (led (length (first_field t)) (get_or (first_field t) 0 0)))
+        | yes m ↦ rw (digits-form (first_field t), not-all digit (first_field t) (digits_in t) (rw (field-long t) h) (no-digit m h), and-false (led (length (first_field t)) (get_or (first_field t) 0 0)))
         | no m ↦ more-digits (first_field t) r f (omega (arith, field-long t))
       ]
 

@@ -37,6 +37,7 @@ const SIGN_CHANGE: u64 = WORDS - 2;
 const EIGHT_ZEROS: u64 = Byte::ZERO as u64 * 11111111;
 
 // How many signs stand at a place: 1 if `-` does, else 0.
+#[tactic(auto, unfolding(rules::specs::Text::minuses))]
 fn minuses_at(l: &[u8], at: usize) -> u8
     ensures { result ≡ minuses (get_or l.now at 0) }
 {

@@ -56,11 +56,11 @@ placed_with a q = ok (record { line = a; next = q })
 abbrev next_of : Placed → Try Answers.Refusal Place
 next_of x = ok (coded x.next)
 
-read_is_lem :
+read-is :
     (l : Name) →
     read_line l ≡ (check (clean l) bad_byte >> (or_else (formed_kind (Text.fields l)) malformed >>= line_with l))
 unfolding read_line formed_kind bind_option or_else check ◌>>◌ ◌>>=◌
-read_is_lem l = ap (check (clean l) bad_byte >>◌) (go (kind_of (get_or (Text.fields l) 0 [])))
+read-is l = ap (check (clean l) bad_byte >>◌) (go (kind_of (get_or (Text.fields l) 0 [])))
   where
     well : Kind → Bool
     well k = is_formed (form k).operands (form k).tail (drop 1 (Text.fields l))
@@ -79,11 +79,11 @@ read_is_lem l = ap (check (clean l) bad_byte >>◌) (go (kind_of (get_or (Text.f
 module _ (p : Places.Place) (l : Name) where
   pub bad-scan : clean l ≡ false → (scan_line p l >>= next_of) ≡ no bad_byte
   unfolding scan_line check ◌>>◌ ◌>>=◌
-  bad-scan e = rw (read_is_lem l, e)
+  bad-scan e = rw (read-is l, e)
 
   pub unformed-scan : clean l ≡ true → kind_or0 (formed_kind (Text.fields l)) ≡ 0 → (scan_line p l >>= next_of) ≡ no malformed
   unfolding scan_line check or_else ◌>>◌ ◌>>=◌
-  unformed-scan e z = rw (read_is_lem l, e, kind-none (formed_kind (Text.fields l)) z)
+  unformed-scan e z = rw (read-is l, e, kind-none (formed_kind (Text.fields l)) z)
 
   pub formed-scan :
       (n : ℕ) → clean l ≡ true → n ≡ kind_or0 (formed_kind (Text.fields l)) → (n ≡ 0 → ⊥) →
@@ -98,7 +98,7 @@ module _ (p : Places.Place) (l : Name) where
       known :
           (k : Kind) → formed_kind (Text.fields l) ≡ some k → kind_numbered n ≡ k →
           (scan_line p l >>= next_of) ≡ (place_line p (kind_numbered n) >>= λ q. ok (coded q))
-      known k f m = rw (read_is_lem l, e, f, m) (same _ (place_line p k))
+      known k f m = rw (read-is l, e, f, m) (same _ (place_line p k))
 
 -- A LINE THAT IS TAKEN
 pub read-line-of : (l : Name) (a : Line) → read_line l ≡ ok a → a ≡ line_of l

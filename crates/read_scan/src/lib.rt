@@ -2,8 +2,9 @@
 #![tactic(auto)]
 
 ghost use Rattle.std.specs.Prelude.{◌≡◌, true, ◌+◌, ◌*◌, ◌≤◌, ◌<◌, length};
-ghost use Rattle.rules.specs.Limits.{most_bytes, work_bytes};
-ghost use Rattle.rules.specs.Grammar.{last_kind, IsKindNumber};
+ghost use Rattle.rules.specs.Limits.{most_bytes};
+ghost use Rattle.rules.specs.Grammar.{last_kind};
+ghost use Rattle.rules.specs.Numbered.{number};
 ghost use Rattle.read_bytes.specs.Marks.{half_values};
 ghost use Rattle.read_grammar.specs.Coded.{within_limits};
 ghost use Rattle.read_scan.specs.Scans.{answer_of, next_place, PlacesLine, PlacesLineTo, Unformed, RefusesLine, ScansLine, verdict_of, scan_text};
@@ -12,7 +13,8 @@ ghost use Rattle.read_scan.specs.Table.{FirstWord, least_line, most_lines, word_
 
 use read_bytes::{Byte, Set};
 use read_grammar::{Place, Stage};
-use tables::Layout;
+use rules::Kind;
+use tables::{Area, Layout};
 
 // The word that a line begins with: the number of its kind, or 0, and the word's end.
 #[derive(Clone, Copy)]
@@ -39,7 +41,7 @@ fn line_fields(t: &[u8], w: Word) -> Option<usize>
     if w.kind == 0 {
         return None;
     }
-    read_fields::fields_end(t, w.end, w.kind)
+    read_fields::fields_end(t, w.end, Kind::numbered(w.kind))
 }
 
 // Why a text is refused in pass 1.
@@ -65,9 +67,9 @@ fn next_place(in_place: bool, within: bool, next: Place) -> Result<Place, Refusa
 }
 
 // The place after a line of this kind.
-pub fn place_line(p: Place, kind: u8) -> Result<Place, Refusal>
-    requires { IsKindNumber kind × (within_limits p ≡ true) }
-    ensures { PlacesLine p kind result }
+pub fn place_line(p: Place, kind: Kind) -> Result<Place, Refusal>
+    requires { within_limits p ≡ true }
+    ensures { PlacesLine p (number kind) result }
 {
     let q = read_grammar::place_after(kind, p);
     next_place(
@@ -84,8 +86,9 @@ const LINE_BYTES: usize = 3;
 // Where in them the kind stands.
 const KIND: usize = 2;
 
-fn put_line(work: &mut [u8], i: usize, w: Word)
-    requires { (length work.old ≡ work_bytes) × (i < most_lines) × (w.end < half_values) }
+#[tactic(auto, unfolding(crate::specs::Table::put_line))]
+fn put_line(work: &mut Area, i: usize, w: Word)
+    requires { (i < most_lines) × (w.end < half_values) }
     ensures { work.new ≡ put_line work.old i w }
 {
     let at = Layout::LINES + LINE_BYTES * i;
@@ -94,8 +97,8 @@ fn put_line(work: &mut [u8], i: usize, w: Word)
 }
 
 // The word of line i.
-pub fn line_word(work: &[u8], i: usize) -> Word
-    requires { (length work.now ≡ work_bytes) × (i < most_lines) }
+pub fn line_word(work: &Area, i: usize) -> Word
+    requires { i < most_lines }
     ensures { result ≡ word_in work.now i }
 {
     let at = Layout::LINES + LINE_BYTES * i;
@@ -114,9 +117,9 @@ struct NextLine {
 }
 
 // The answer on a line of this kind with its LF at e.
-fn placed_line(p: Place, kind: u8, e: usize) -> Result<NextLine, Refusal>
-    requires { IsKindNumber kind × (within_limits p ≡ true) }
-    ensures { PlacesLineTo p kind e result }
+fn placed_line(p: Place, kind: Kind, e: usize) -> Result<NextLine, Refusal>
+    requires { within_limits p ≡ true }
+    ensures { PlacesLineTo p (number kind) e result }
 {
     let place = place_line(p, kind)?;
     Ok(NextLine { feed: e, place })
@@ -135,8 +138,8 @@ fn refused_line(t: &[u8], at: usize) -> Refusal
 }
 
 // The line that begins at `at`, with n lines above it. A line that has its form ends with its last field.
-fn scan_line(t: &[u8], work: &mut [u8], at: usize, n: usize, p: Place) -> Result<NextLine, Refusal>
-    requires { (at < length t.now) × (within_limits p ≡ true) × (length t.now ≤ most_bytes) × (length work.old ≡ work_bytes) × (least_line * n ≤ at) }
+fn scan_line(t: &[u8], work: &mut Area, at: usize, n: usize, p: Place) -> Result<NextLine, Refusal>
+    requires { (at < length t.now) × (within_limits p ≡ true) × (length t.now ≤ most_bytes) × (least_line * n ≤ at) }
     ensures { ScansLine t.now at p result × NotesLine t.now work.old at n result work.new }
 {
     let w = first_word(t, at);
@@ -147,7 +150,7 @@ fn scan_line(t: &[u8], work: &mut [u8], at: usize, n: usize, p: Place) -> Result
         return Err(Refusal::BadByte);
     }
     put_line(work, n, w);
-    placed_line(p, w.kind, e)
+    placed_line(p, Kind::numbered(w.kind), e)
 }
 
 // Why a text is refused in pass 1, and at which line.
@@ -158,9 +161,9 @@ pub struct RefusedLine {
 }
 
 // Form, place and limits of every line, and the text's end; keeps the table of lines. The count of the lines of a text that is taken.
-pub fn scan(text: &[u8], work: &mut [u8]) -> Result<usize, RefusedLine>
-    requires { (length text.now ≤ most_bytes) × (length work.old ≡ work_bytes) }
-    ensures { (verdict_of result ≡ scan_text text.now) × TableOf text.now work.new result × (length work.new ≡ length work.old) }
+pub fn scan(text: &[u8], work: &mut Area) -> Result<usize, RefusedLine>
+    requires { length text.now ≤ most_bytes }
+    ensures { (verdict_of result ≡ scan_text text.now) × TableOf text.now work.new result }
 {
     let mut p = read_grammar::first_place();
     let mut at = 0;

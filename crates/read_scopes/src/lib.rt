@@ -1,17 +1,19 @@
 // What the rows of names mean: declarations and the variables of a block; a name added.
 #![tactic(auto)]
 
-ghost use Rattle.std.specs.Prelude.{◌≡◌, ◌+◌, ◌<◌, length};
-ghost use Rattle.rules.specs.Limits.{work_bytes, most_classes, most_methods, most_locals};
+ghost use Rattle.std.specs.Prelude.{◌≡◌, ◌+◌, ◌<◌};
+ghost use Rattle.rules.specs.Limits.{most_classes, most_methods, most_locals};
 ghost use Rattle.rules.specs.Syntax.{first_local};
 ghost use Rattle.tables.specs.Layout.{most_names, frame_variables};
 ghost use Rattle.read_names.specs.Rows.{SpanFits, RowFits, put_row, classes_first, fields_first, methods_first, variables_first};
 ghost use Rattle.read_scopes.specs.Meanings.{class_row, field_row, variable_row, more_classes, more_fields, more_methods, more_locals, put_block};
 
 use read_names::{Row, Span};
+use tables::Area;
 
 // How many rows there are of what the text declares, and what a line may name of its block: `this` and the parameter of a method,
-// locals, `result`. The two tests are last: a record with less padding is copied faster.
+// locals, `result`. The two tests are last: a record with less padding is copied faster. That the counts fit (`NamesFit`) is no fact of the
+// type, since `more_classes`, `more_fields`, `more_methods` and `more_locals` raise a count of any `Names`.
 #[derive(Clone, Copy)]
 pub struct Names {
     pub classes: usize,
@@ -45,8 +47,9 @@ pub struct Above {
 }
 
 // One more class.
-pub fn add_class(text: &[u8], work: &mut [u8], c: Names, name: Span) -> Names
-    requires { (length work.old ≡ work_bytes) × (c.classes < most_classes) × SpanFits name }
+#[tactic(auto, unfolding(crate::specs::Meanings::more_classes))]
+pub fn add_class(text: &[u8], work: &mut Area, c: Names, name: Span) -> Names
+    requires { (c.classes < most_classes) × SpanFits name }
     ensures { (result ≡ more_classes c) × (work.new ≡ put_row text.now work.old (classes_first + c.classes) (class_row name)) }
 {
     let none = read_names::no_span();
@@ -68,15 +71,16 @@ pub fn add_class(text: &[u8], work: &mut [u8], c: Names, name: Span) -> Names
 }
 
 // One more field, of this type, of the class `owner`.
+#[tactic(auto, unfolding(crate::specs::Meanings::more_fields))]
 pub fn add_field(
     text: &[u8],
-    work: &mut [u8],
+    work: &mut Area,
     c: Names,
     owner: usize,
     name: Span,
     gives: Span,
 ) -> Names
-    requires { (length work.old ≡ work_bytes) × (c.fields < most_names) × RowFits (field_row owner name gives) }
+    requires { (c.fields < most_names) × RowFits (field_row owner name gives) }
     ensures { (result ≡ more_fields c) × (work.new ≡ put_row text.now work.old (fields_first + c.fields) (field_row owner name gives)) }
 {
     let takes = read_names::no_span();
@@ -98,8 +102,9 @@ pub fn add_field(
 }
 
 // One more method.
-pub fn add_method(text: &[u8], work: &mut [u8], c: Names, m: Row) -> Names
-    requires { (length work.old ≡ work_bytes) × (c.methods < most_methods) × RowFits m }
+#[tactic(auto, unfolding(crate::specs::Meanings::more_methods))]
+pub fn add_method(text: &[u8], work: &mut Area, c: Names, m: Row) -> Names
+    requires { (c.methods < most_methods) × RowFits m }
     ensures { (result ≡ more_methods c) × (work.new ≡ put_row text.now work.old (methods_first + c.methods) m) }
 {
     read_names::put_row(text, work, read_names::METHODS + c.methods, m);
@@ -109,8 +114,8 @@ pub fn add_method(text: &[u8], work: &mut [u8], c: Names, m: Row) -> Names
     }
 }
 
-fn put_variable(text: &[u8], work: &mut [u8], v: usize, name: Span, gives: Span)
-    requires { (length work.old ≡ work_bytes) × (v < frame_variables) × SpanFits name × SpanFits gives }
+fn put_variable(text: &[u8], work: &mut Area, v: usize, name: Span, gives: Span)
+    requires { (v < frame_variables) × SpanFits name × SpanFits gives }
     ensures { work.new ≡ put_row text.now work.old (variables_first + v) (variable_row name gives) }
 {
     let takes = read_names::no_span();
@@ -128,8 +133,9 @@ fn put_variable(text: &[u8], work: &mut [u8], v: usize, name: Span, gives: Span)
 }
 
 // One more local.
-pub fn put_local(text: &[u8], work: &mut [u8], c: Names, name: Span, gives: Span) -> Names
-    requires { (length work.old ≡ work_bytes) × (c.locals < most_locals) × SpanFits name × SpanFits gives }
+#[tactic(auto, unfolding(crate::specs::Meanings::more_locals))]
+pub fn put_local(text: &[u8], work: &mut Area, c: Names, name: Span, gives: Span) -> Names
+    requires { (c.locals < most_locals) × SpanFits name × SpanFits gives }
     ensures { (result ≡ more_locals c) × (work.new ≡ put_row text.now work.old (variables_first + (first_local + c.locals)) (variable_row name gives)) }
 {
     put_variable(text, work, FIRST_LOCAL + c.locals, name, gives);
@@ -140,8 +146,9 @@ pub fn put_local(text: &[u8], work: &mut [u8], c: Names, name: Span, gives: Span
 }
 
 // The variables that the block of the method m begins with: `this` is of the class named here, and its parameter has this name.
-pub fn put_block(text: &[u8], work: &mut [u8], class: Span, m: Row, parameter: Span)
-    requires { (length work.old ≡ work_bytes) × SpanFits class × RowFits m × SpanFits parameter }
+#[tactic(auto, unfolding(crate::specs::Meanings::put_block))]
+pub fn put_block(text: &[u8], work: &mut Area, class: Span, m: Row, parameter: Span)
+    requires { SpanFits class × RowFits m × SpanFits parameter }
     ensures { work.new ≡ put_block text.now work.old class m parameter }
 {
     let none = read_names::no_span();

@@ -14,6 +14,7 @@ use rules::Machine;
 // NAMES
 
 // Are n bytes few enough for a name, and is the first a letter?
+#[tactic(auto, unfolding(crate::specs::Names::begins_name))]
 fn begins_name(w: &[u8], n: usize) -> bool
     ensures { result ≡ begins_name n w.now }
 {
@@ -90,6 +91,7 @@ fn begins_number(b: u8) -> bool
 }
 
 // Does it begin as a number?
+#[tactic(auto, unfolding(rules::specs::Text::numeral, rules::specs::Text::is_negative))]
 pub fn is_numeral(w: &[u8]) -> bool
     ensures { result ≡ numeral w.now }
 {

@@ -1,5 +1,5 @@
 -- Verdicts of the parts of a line, put together.
-use mathlib.Core.Path.{◌≡◌, refl, sym, ap}
+use mathlib.Core.Path.{◌≡◌, refl, ap}
 use mathlib.Core.Bool.{Bool, true, false, ◌&&◌}
 use Prim.Native.Nat.{ℕ}
 use native.Mathlib.Omega.{arith}
@@ -80,14 +80,3 @@ judged-good k t a e =
     let x = test_good k Fault.Undeclared _ e in
     let y = test_good t Fault.WrongType _ x.1 in
     (x.0, (y.0, (test_good a Fault.WrongTarget (Ok tt) y.1).0))
-
--- what `?` makes of one test
-pub test_stops : (b : Bool) (f e : Fault) (v : Verdict) → test b f (Ok tt) ≡ Err e → test b f v ≡ Err e
-unfolding test
-test_stops true f e v z = not-bad e (sym z)
-test_stops false f e v z = z
-
-pub test_goes : (b : Bool) (f : Fault) (u : Unit {0}) (v : Verdict) → test b f (Ok tt) ≡ Ok u → test b f v ≡ v
-unfolding test
-test_goes true f u v z = refl
-test_goes false f u v z = not-bad f z

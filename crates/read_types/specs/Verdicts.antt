@@ -31,3 +31,8 @@ unfoldable pub lower : Verdict → Verdict → Verdict
 lower (Ok u) v = v
 lower (Err f) (Ok u) = Err f
 lower (Err f) (Err g) = Err (lower_fault f g)
+
+-- Everything above computes where this unfolds.
+unfoldable pub opened : Unit {0}
+unfolding test judged and_then lower_fault lower
+opened = tt

@@ -1,11 +1,10 @@
 // Expressions looked up, with their numbers, type and verdict; types that agree.
 #![tactic(auto)]
 
-ghost use Rattle.std.specs.Prelude.{◌≡◌, Ok, Err, true, false, ◌+◌, ◌≤◌, ◌<◌, length};
+ghost use Rattle.std.specs.Prelude.{◌≡◌, Ok, Err, true, false, ◌+◌, ◌≤◌, ◌<◌};
 ghost use Rattle.std.proofs.Math.Option.{some};
 ghost use Rattle.rules.specs.Base.{is};
 ghost use Rattle.rules.specs.Syntax.{var, path};
-ghost use Rattle.rules.specs.Limits.{work_bytes};
 ghost use Rattle.rules.specs.Text.{is_expr, expr_of};
 ghost use Rattle.rules.specs.Names.{agree};
 ghost use Rattle.read_names.specs.Rows.{name_in};
@@ -17,7 +16,7 @@ ghost use Rattle.read_types.specs.declared.Fault.{Fault};
 
 use read_names::Span;
 use read_scopes::Names;
-use tables::Expr;
+use tables::{Area, Expr};
 
 // The type of an expression: null's, a number's, or that of a declaration, by its name.
 #[derive(Clone, Copy)]
@@ -55,6 +54,7 @@ pub struct Lookup {
 // VERDICTS
 
 // One test.
+#[tactic(auto, unfolding(crate::specs::Verdicts::opened))]
 pub fn test(passed: bool, f: Fault) -> Result<(), Fault>
     ensures { result ≡ test passed f (Ok tt) }
 {
@@ -84,6 +84,7 @@ pub fn lower(u: Result<(), Fault>, v: Result<(), Fault>) -> Result<(), Fault>
 
 // TYPES THAT AGREE
 
+#[tactic(auto, unfolding(crate::specs::Types::is_int_type))]
 fn is_int_type(text: &[u8], a: ExprType) -> bool
     ensures { result ≡ is_int_type text.now a }
 {
@@ -94,6 +95,7 @@ fn is_int_type(text: &[u8], a: ExprType) -> bool
     }
 }
 
+#[tactic(auto, unfolding(rules::specs::Names::agree, crate::specs::Types::type_meant, rules::specs::Base::is))]
 fn agree_named(text: &[u8], s: Span, b: ExprType) -> bool
     ensures { result ≡ agree (some (name_in text.now s)) (type_meant text.now b) }
 {
@@ -104,6 +106,7 @@ fn agree_named(text: &[u8], s: Span, b: ExprType) -> bool
     }
 }
 
+#[tactic(auto, unfolding(crate::specs::Types::type_meant))]
 pub fn agree(text: &[u8], a: ExprType, b: ExprType) -> bool
     ensures { result ≡ agree (type_meant text.now a) (type_meant text.now b) }
 {
@@ -117,6 +120,7 @@ pub fn agree(text: &[u8], a: ExprType, b: ExprType) -> bool
 // LOOKING UP: all that a line needs to know of an expression, its names looked up once
 
 // May a line name f of the variable v, of this class, if i is where the class's field f stands?
+#[tactic(auto, unfolding(crate::specs::Verdicts::opened, crate::specs::Types::may_name))]
 fn judge_member(
     text: &[u8],
     c: Names,
@@ -133,8 +137,8 @@ fn judge_member(
     test(i < c.fields, Fault::Undeclared)
 }
 
-pub fn look_path(text: &[u8], work: &[u8], c: Names, x: &[u8], f: &[u8]) -> Member
-    requires { (length work.now ≡ work_bytes) × NamesFit c }
+pub fn look_path(text: &[u8], work: &Area, c: Names, x: &[u8], f: &[u8]) -> Member
+    requires { NamesFit c }
     ensures { MemberIn text.now work.now c x.now f.now result }
 {
     let v = read_lookups::variable(text, work, c, x);
@@ -152,8 +156,8 @@ pub fn look_path(text: &[u8], work: &[u8], c: Names, x: &[u8], f: &[u8]) -> Memb
 }
 
 // W9: "f a field with x's class as its type (else 7)". Is the field that was looked up of its variable's class?
-fn is_chain(text: &[u8], work: &[u8], m: Member) -> bool
-    requires { (length work.now ≡ work_bytes) × (m.variable ≤ no_variable) }
+fn is_chain(text: &[u8], work: &Area, m: Member) -> bool
+    requires { m.variable ≤ no_variable }
     ensures { result ≡ of_own_class text.now work.now m }
 {
     read_lookups::same_name(text, m.is, read_lookups::type_of(work, m.variable))
@@ -161,8 +165,8 @@ fn is_chain(text: &[u8], work: &[u8], m: Member) -> bool
 
 // What a line may say of it as a chain.
 #[tactic(auto, unfolding(crate::specs::Verdicts::and_then))]
-fn judge_chain(text: &[u8], work: &[u8], m: Member) -> Result<(), Fault>
-    requires { (length work.now ≡ work_bytes) × (m.variable ≤ no_variable) }
+fn judge_chain(text: &[u8], work: &Area, m: Member) -> Result<(), Fault>
+    requires { m.variable ≤ no_variable }
     ensures { result ≡ and_then m.verdict (test (of_own_class text.now work.now m) Fault.WrongType (Ok tt)) }
 {
     m.verdict?;
@@ -170,8 +174,8 @@ fn judge_chain(text: &[u8], work: &[u8], m: Member) -> Result<(), Fault>
 }
 
 // As look_path, for `chain x f`: good only if x's field f is of x's class.
-pub fn look_chain(text: &[u8], work: &[u8], c: Names, x: &[u8], f: &[u8]) -> Member
-    requires { (length work.now ≡ work_bytes) × NamesFit c }
+pub fn look_chain(text: &[u8], work: &Area, c: Names, x: &[u8], f: &[u8]) -> Member
+    requires { NamesFit c }
     ensures { ChainIn text.now work.now c x.now f.now result }
 {
     let m = look_path(text, work, c, x, f);
@@ -181,8 +185,9 @@ pub fn look_chain(text: &[u8], work: &[u8], c: Names, x: &[u8], f: &[u8]) -> Mem
     }
 }
 
-fn path_look(text: &[u8], work: &[u8], c: Names, x: &[u8], f: &[u8]) -> Lookup
-    requires { (length work.now ≡ work_bytes) × NamesFit c }
+#[tactic(auto, unfolding(tables::specs::Stores::meaning, rules::specs::Items::resolve_expr, crate::specs::Types::type_meant, rules::specs::Names::expr_type))]
+fn path_look(text: &[u8], work: &Area, c: Names, x: &[u8], f: &[u8]) -> Lookup
+    requires { NamesFit c }
     ensures { LookIn text.now work.now c (path x.now f.now) result }
 {
     let m = look_path(text, work, c, x, f);
@@ -193,8 +198,9 @@ fn path_look(text: &[u8], work: &[u8], c: Names, x: &[u8], f: &[u8]) -> Lookup
     }
 }
 
-fn var_look(text: &[u8], work: &[u8], c: Names, x: &[u8]) -> Lookup
-    requires { (length work.now ≡ work_bytes) × NamesFit c }
+#[tactic(auto, unfolding(tables::specs::Stores::meaning, rules::specs::Items::resolve_expr, crate::specs::Types::type_meant, rules::specs::Names::expr_type, crate::specs::Types::expr_judged, crate::specs::Verdicts::opened, rules::specs::Names::known_expr, rules::specs::Names::of_class_in))]
+fn var_look(text: &[u8], work: &Area, c: Names, x: &[u8]) -> Lookup
+    requires { NamesFit c }
     ensures { LookIn text.now work.now c (var x.now) result }
 {
     let v = read_lookups::variable(text, work, c, x);
@@ -207,8 +213,9 @@ fn var_look(text: &[u8], work: &[u8], c: Names, x: &[u8]) -> Lookup
     }
 }
 
-pub fn look(text: &[u8], work: &[u8], c: Names, w: &[u8]) -> Lookup
-    requires { (length work.now ≡ work_bytes) × NamesFit c × (is_expr w.now ≡ true) }
+#[tactic(auto, unfolding(tables::specs::Stores::meaning, rules::specs::Items::resolve_expr, crate::specs::Types::type_meant, rules::specs::Names::expr_type, crate::specs::Types::expr_judged, crate::specs::Verdicts::opened, rules::specs::Names::known_expr, rules::specs::Names::of_class_in))]
+pub fn look(text: &[u8], work: &Area, c: Names, w: &[u8]) -> Lookup
+    requires { NamesFit c × (is_expr w.now ≡ true) }
     ensures { LookIn text.now work.now c (expr_of w.now) result }
 {
     let e = read_tokens::known_expr(w);

@@ -146,18 +146,6 @@ module _ (w : Name) (p : (i : ℕ) → get_or w i 0 < 256) (f : 1 ≤ get_or w 0
 
 -- NO WORD
 
--- what the last arm of a `match` on a packed word knows: A, and that it is none of these
-abbrev pub NoneOf : Type 0 → List String → ℕ → Type 0
-NoneOf A [] k = A
-NoneOf A (s ∷ ss) k = NoneOf (A × (k ≡ packed 0 (bytes s) → ⊥)) ss k
-
-pub none-packed : (A : Type 0) (ss : List String) (n k : ℕ) → NoneOf A ss k → A × (packed_in ss n k ≡ 0)
-unfolding packed_in
-none-packed A [] n k h = (h, refl)
-none-packed A (s ∷ ss) n k h =
-    let r = none-packed (A × (k ≡ packed 0 (bytes s) → ⊥)) ss (suc n) k h in
-    (r.0.0, rw (ne_eqb k (packed 0 (bytes s)) r.0.1) r.1)
-
 differs : (f : Name → Bool) (s : String) (w : Name) (q : Bool) (n r : ℕ) → f w ≡ true → f (bytes s) ≡ false → is s w ≡ q → r ≡ 0 → cond q n r ≡ 0
 unfolding is
 differs f s w true n r e h z i = true-false (sym e ∙ (ap f (sym (same-is (bytes s) w z)) ∙ h))

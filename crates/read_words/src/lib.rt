@@ -97,34 +97,35 @@ pub fn pack(w: &[u8]) -> u64
 }
 
 // The number of a packed word, or 0.
+#[tactic(auto, unfolding(crate::specs::Words::opened, rules::specs::Base::opened))]
 fn numbered(k: u64) -> u8
     ensures { result ≡ packed_in words 1 k }
 {
     match k {
-        Packed::CLASS => Kind::CLASS,
-        Packed::FIELD => Kind::FIELD,
-        Packed::METHOD => Kind::METHOD,
-        Packed::REQUIRES => Kind::REQUIRES,
-        Packed::ENSURES => Kind::ENSURES,
-        Packed::MAIN => Kind::MAIN,
-        Packed::VAR => Kind::VAR,
-        Packed::SET => Kind::SET,
-        Packed::LET => Kind::LET,
-        Packed::NEW => Kind::NEW,
-        Packed::CALL => Kind::CALL,
-        Packed::RETURN => Kind::RETURN,
-        Packed::ASSERT => Kind::ASSERT,
-        Packed::RELEASE => Kind::RELEASE,
-        Packed::IF => Kind::IF,
-        Packed::ELSE => Kind::ELSE,
-        Packed::JOIN => Kind::JOIN,
-        Packed::END => Kind::END,
-        Packed::ADD => Kind::ADD,
-        Packed::SUB => Kind::SUB,
-        Packed::LOOP => Kind::LOOP,
-        Packed::AGAIN => Kind::AGAIN,
-        Packed::OPEN => Kind::OPEN,
-        Packed::SHUT => Kind::SHUT,
+        Packed::CLASS => Kind::Class as u8,
+        Packed::FIELD => Kind::Field as u8,
+        Packed::METHOD => Kind::Method as u8,
+        Packed::REQUIRES => Kind::Requires as u8,
+        Packed::ENSURES => Kind::Ensures as u8,
+        Packed::MAIN => Kind::Main as u8,
+        Packed::VAR => Kind::Var as u8,
+        Packed::SET => Kind::Set as u8,
+        Packed::LET => Kind::Let as u8,
+        Packed::NEW => Kind::New as u8,
+        Packed::CALL => Kind::Call as u8,
+        Packed::RETURN => Kind::Return as u8,
+        Packed::ASSERT => Kind::Assert as u8,
+        Packed::RELEASE => Kind::Release as u8,
+        Packed::IF => Kind::If as u8,
+        Packed::ELSE => Kind::Else as u8,
+        Packed::JOIN => Kind::Join as u8,
+        Packed::END => Kind::End as u8,
+        Packed::ADD => Kind::Add as u8,
+        Packed::SUB => Kind::Sub as u8,
+        Packed::LOOP => Kind::Loop as u8,
+        Packed::AGAIN => Kind::Again as u8,
+        Packed::OPEN => Kind::Open as u8,
+        Packed::SHUT => Kind::Shut as u8,
         Packed::INT => INT,
         Packed::NULL => NULL,
         Packed::THIS => THIS,
@@ -134,6 +135,7 @@ fn numbered(k: u64) -> u8
 }
 
 // The number of a word, or 0.
+#[tactic(auto, unfolding(crate::specs::Words::opened, rules::specs::Base::opened))]
 fn word(w: &[u8]) -> u8
     ensures { result ≡ word_number w.now }
 {
@@ -174,6 +176,7 @@ pub fn is_reserved(w: &[u8]) -> bool
     INT <= word(w)
 }
 
+#[tactic(auto, unfolding(rules::specs::Base::opened, crate::specs::Words::opened))]
 pub fn is_null(w: &[u8]) -> bool
     ensures { result ≡ is "null" w.now }
 {

@@ -3,16 +3,20 @@ use Rattle.std.proofs.Common.{Option, Some, None, Result, Ok, Err}
 use mathlib.Core.Path.{◌≡◌, refl, sym, ap, subst, ◌∙◌}
 use mathlib.Core.Bool.{Bool, true, false, cond, ◌||◌}
 use mathlib.Core.List.{List, []}
-use Prim.Native.Nat.{ℕ, suc, ◌-◌, ◌≤◌, ◌<◌}
-use native.Mathlib.Omega.{arith}
+use Prim.Native.Nat.{ℕ, suc, ◌-◌}
 use lib.Dec.{eqb}
 use lib.ListN.{drop}
-use borrow.Author.Tests.{eqb-false}
+use mathlib.Core.Logic.{◌⊎◌, inl, inr, ⊎_elim}
+use borrow.Author.Tests.{ne_eqb}
+use borrow.Author.Rules.{rules}
+use Rattle.rules.specs.declared.Kind as Numbered
+use Rattle.rules.specs.declared.Kind.TheVariants as Variants
+use Rattle.rules.specs.Numbered.{number}
+use Rattle.rules.proofs.KindNumbers.{one_number, bounds, either}
 use Rattle.rules.specs.Syntax.{Formula}
 use Rattle.rules.specs.Grammar.{Kind, Line, Requires, Ensures, statement, Join, Loop, form, is_formed}
-use Rattle.rules.specs.Grammar.{first_statement, IsKindNumber, kind_number, statement_number}
+use Rattle.rules.specs.Grammar.{IsKindNumber, IsStatementNumber, kind_number, statement_number}
 use Rattle.rules.specs.Reading.{framed, framed_item}
-use Rattle.read_bytes.proofs.Search.{or-false}
 use Rattle.read_fields.specs.Cuts.{more}
 use Rattle.read_grammar.specs.Rows.{kind_numbered}
 use Rattle.read_grammar.proofs.Rows.{kind-of-number, kind-numbered}
@@ -32,18 +36,46 @@ pub framed-number : (n : ℕ) → IsKindNumber n → is_framed (kind_numbered n)
 unfolding is_framed kind_number statement_number
 framed-number n h = let is = kind-numbered n h in rw (is Requires, is Ensures, is (statement Join), is (statement Loop))
 
--- of the kinds that are no statements, the last that is tried
-pub var-left :
-    (k : ℕ) → 1 ≤ k → k < first_statement → (k ≡ 2 → ⊥) → (k ≡ 3 → ⊥) → (k ≡ 4 → ⊥) → (k ≡ 5 → ⊥) → is_declaration k ≡ false → k ≡ 7
+-- Is its number one of those four?
+framed-test : Numbered.Kind → Bool
+framed-test k = eqb 4 (number k) || (eqb 5 (number k) || (eqb 17 (number k) || eqb 21 (number k)))
+
+pub framed-kind :
+    {k : Numbered.Kind} → (k ≡ Variants.Requires) ⊎ ((k ≡ Variants.Ensures) ⊎ ((k ≡ Variants.Join) ⊎ (k ≡ Variants.Loop))) →
+    is_framed (kind_numbered (number k)) ≡ true
+unfolding framed-test
+framed-kind {k} o = framed-number (number k) (bounds k) ∙ go o
+  where
+    go : (k ≡ Variants.Requires) ⊎ ((k ≡ Variants.Ensures) ⊎ ((k ≡ Variants.Join) ⊎ (k ≡ Variants.Loop))) → framed-test k ≡ true
+    go (inl z) = ap framed-test z
+    go (inr (inl z)) = ap framed-test z
+    go (inr (inr (inl z))) = ap framed-test z
+    go (inr (inr (inr z))) = ap framed-test z
+
+pub other-kind :
+    {k : Numbered.Kind} → (k ≡ Variants.Requires → ⊥) → (k ≡ Variants.Ensures → ⊥) → (k ≡ Variants.Join → ⊥) → (k ≡ Variants.Loop → ⊥) →
+    is_framed (kind_numbered (number k)) ≡ false
+other-kind {k} a b d e =
+    framed-number (number k) (bounds k)
+    ∙ rw (
+      ne_eqb 4 (number k) (λ z. a (one_number k Variants.Requires (sym z))),
+      ne_eqb 5 (number k) (λ z. b (one_number k Variants.Ensures (sym z))),
+      ne_eqb 17 (number k) (λ z. d (one_number k Variants.Join (sym z))),
+      ne_eqb 21 (number k) (λ z. e (one_number k Variants.Loop (sym z))),
+    )
+
+-- a statement's kind has a statement's number
+pub has-statement :
+    {k : Numbered.Kind} {n : ℕ} → number k ≡ n →
+    (k ≡ Variants.Set) ⊎ ((k ≡ Variants.Let) ⊎ ((k ≡ Variants.New) ⊎ ((k ≡ Variants.Call) ⊎ ((k ≡ Variants.Return) ⊎ ((k ≡ Variants.Assert) ⊎ ((k ≡ Variants.Release) ⊎ ((k ≡ Variants.If) ⊎ (
+    (k ≡ Variants.Else) ⊎ ((k ≡ Variants.Join) ⊎ ((k ≡ Variants.End) ⊎ ((k ≡ Variants.Add) ⊎ ((k ≡ Variants.Sub) ⊎ ((k ≡ Variants.Loop) ⊎ ((k ≡ Variants.Again) ⊎ ((k ≡ Variants.Open) ⊎ (k ≡ Variants.Shut)))))))))))))))) →
+    IsStatementNumber n
+has-statement e o = search rules
+
+-- `class` and `main` are declarations
+pub declares : {k : Numbered.Kind} {n : ℕ} → number k ≡ n → (k ≡ Variants.Class) ⊎ (k ≡ Variants.Main) → is_declaration n ≡ true
 unfolding is_declaration
-var-left k a l m n o q e =
-    let x = or-false (eqb k 1) (eqb k 6) e in
-    let b : 2 ≤ k = omega (arith, a, eqb-false k 1 x.0) in
-    let d : 3 ≤ k = omega (arith, b, m) in
-    let f : 4 ≤ k = omega (arith, d, n) in
-    let g : 5 ≤ k = omega (arith, f, o) in
-    let h : 6 ≤ k = omega (arith, g, q) in
-    omega (arith, h, l, eqb-false k 6 x.1)
+declares e o = ⊎_elim (λ z. rw z refl) (λ z. rw z refl) (either e o)
 
 module _ {t w : List ℕ} {p : Pass} {l : Line} {w' : List ℕ} {q : Pass} (x : LinePut t w p l w' q) where
   -- the line's formula was tested

@@ -78,12 +78,12 @@ module _ {t w : List ℕ} {p : Pass} (x : AllRead t w p) where
   F = with_items no_program 0 x.items
 
   pub finish-fits :
-      ((length w ≡ 65536) × ((p.rows ≤ 256) × (p.atoms < 65536)))
+      ((p.rows ≤ 256) × (p.atoms < 65536))
       × ((p.names.classes < 256) × ((p.names.methods < 256) × (p.main < 65536)))
   finish-fits =
       let h = x.stands.holds in
       let s = x.stands in (
-        (h.size, (omega (arith, h.rows.few, s.rows), omega (arith, h.atoms.few))),
+        (omega (arith, h.rows.few, s.rows), omega (arith, h.atoms.few)),
         (omega (arith, h.classes.few, s.classes, x.classes), (omega (arith, h.methods.few, s.methods, x.methods), omega (arith, h.main, h.rows.few, s.main))),
       )
 

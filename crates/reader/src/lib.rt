@@ -1,16 +1,16 @@
 // Any bytes to tables, or to the number and line of rows 2 to 10: pass 1, the declarations, and pass 2 line by line.
 #![tactic(auto)]
 
-ghost use Rattle.std.specs.Prelude.{◌≡◌, true, false, ◌+◌, ◌-◌, ◌≤◌, ◌<◌, length};
-ghost use Rattle.rules.specs.Limits.{work_bytes, most_bytes};
-ghost use Rattle.rules.specs.Grammar.{IsKindNumber};
+ghost use Rattle.std.specs.Prelude.{◌≡◌, ◌+◌, ◌-◌, ◌≤◌, ◌<◌, length};
+ghost use Rattle.rules.specs.Limits.{most_bytes};
+ghost use Rattle.rules.specs.Numbered.{number};
 ghost use Rattle.read_grammar.specs.Rows.{kind_numbered};
 ghost use Rattle.read_scan.specs.Scans as Scans;
 ghost use Rattle.read_scan.specs.Table.{LineTable};
 ghost use Rattle.tables.specs.Decode.{framed_from};
 ghost use Rattle.read_declarations.specs.Texts.{TextTaken};
 ghost use Rattle.read_declarations.specs.Declares.{Declares};
-ghost use Rattle.resolve_headers.specs.Headers.{is_declaration, Held};
+ghost use Rattle.resolve_headers.specs.Headers.{Held};
 ghost use Rattle.resolve_bodies.specs.Bodies.{Follows};
 ghost use Rattle.resolve_pass.specs.Passes.{first_pass, LineRoom, is_framed, line_after, LineTried};
 ghost use Rattle.reader.specs.Readings.{unframed_by, with_unframed, Between, Written, Begins, StepIs, ResolvedIs, ReadingIs, refusal_of, number_of};
@@ -20,6 +20,7 @@ use read_scopes::{Above, Names, Range};
 use read_types::Fault;
 use resolve_pass::Pass;
 use rules::{Kind, Machine};
+use tables::Area;
 
 // Why a text is refused.
 #[derive(Clone, Copy)]
@@ -81,54 +82,52 @@ impl From<read_scan::RefusedLine> for RefusedLine {
 
 // ONE LINE
 
-fn is_declaration(kind: u8) -> bool
-    ensures { result ≡ is_declaration kind }
-{
-    match kind {
-        Kind::CLASS => true,
-        Kind::MAIN => true,
-        _ => false,
-    }
-}
-
 // Puts a line of this kind, the word of which ends at r, into the tables if it is good.
-fn try_line(text: &[u8], work: &mut [u8], p: Pass, kind: u8, r: usize) -> Result<Pass, Fault>
-    requires { Follows text.now work.old p kind r × IsKindNumber kind × Held work.old p }
-    ensures { LineTried text.now work.old p (line_after text.now r kind) work.new result }
+// A match and no closure: each form has a contract of its own.
+fn try_line(text: &[u8], work: &mut Area, p: Pass, kind: Kind, r: usize) -> Result<Pass, Fault>
+    requires { Follows text.now work.old p (number kind) r × Held work.old p }
+    ensures { LineTried text.now work.old p (line_after text.now r (number kind)) work.new result }
 {
-    if is_declaration(kind) {
-        return resolve_headers::put_declaration(text, work, p, kind, r);
-    }
-    if Kind::is_statement(kind) {
-        return resolve_bodies::put_statement(text, work, p, kind, r);
-    }
     match kind {
-        Kind::FIELD => resolve_headers::put_field(text, work, p, r),
-        Kind::METHOD => resolve_headers::put_method(text, work, p, r),
-        Kind::REQUIRES => resolve_bodies::put_header(text, work, p, kind, r),
-        Kind::ENSURES => resolve_bodies::put_header(text, work, p, kind, r),
-        _ => resolve_headers::put_var(text, work, p, r),
+        Kind::Class | Kind::Main => resolve_headers::put_declaration(text, work, p, kind, r),
+        Kind::Field => resolve_headers::put_field(text, work, p, r),
+        Kind::Method => resolve_headers::put_method(text, work, p, r),
+        Kind::Requires | Kind::Ensures => resolve_bodies::put_header(text, work, p, kind, r),
+        Kind::Var => resolve_headers::put_var(text, work, p, r),
+        Kind::Set
+        | Kind::Let
+        | Kind::New
+        | Kind::Call
+        | Kind::Return
+        | Kind::Assert
+        | Kind::Release
+        | Kind::If
+        | Kind::Else
+        | Kind::Join
+        | Kind::End
+        | Kind::Add
+        | Kind::Sub
+        | Kind::Loop
+        | Kind::Again
+        | Kind::Open
+        | Kind::Shut => resolve_bodies::put_statement(text, work, p, kind, r),
     }
 }
 
 // Is number 10 about lines of this kind?
-fn is_framed(kind: u8) -> bool
-    requires { IsKindNumber kind }
-    ensures { result ≡ is_framed (kind_numbered kind) }
+fn is_framed(kind: Kind) -> bool
+    ensures { result ≡ is_framed (kind_numbered (number kind)) }
 {
-    match kind {
-        Kind::REQUIRES => true,
-        Kind::ENSURES => true,
-        Kind::JOIN => true,
-        Kind::LOOP => true,
-        _ => false,
-    }
+    matches!(
+        kind,
+        Kind::Requires | Kind::Ensures | Kind::Join | Kind::Loop
+    )
 }
 
 // The first line that number 10 refuses, if any, after a line of this kind between p and q.
-fn first_unframed(work: &[u8], kind: u8, p: Pass, q: Pass) -> Option<usize>
-    requires { Between work.now kind p q }
-    ensures { result ≡ unframed_by (is_framed (kind_numbered kind)) (framed_from work.now kind p.atoms (q.atoms - p.atoms)) p }
+fn first_unframed(work: &Area, kind: Kind, p: Pass, q: Pass) -> Option<usize>
+    requires { Between work.now (number kind) p q }
+    ensures { result ≡ unframed_by (is_framed (kind_numbered (number kind))) (framed_from work.now (number kind) p.atoms (q.atoms - p.atoms)) p }
 {
     if let Some(line) = p.unframed {
         return Some(line);
@@ -149,21 +148,22 @@ fn with_unframed(p: Pass, unframed: Option<usize>) -> Pass
 }
 
 // The pass q after a line of this kind, with the first line that number 10 refuses; p is the pass before it.
-fn take_line(work: &[u8], kind: u8, p: Pass, q: Pass) -> Pass
-    requires { Between work.now kind p q }
-    ensures { result ≡ with_unframed q (unframed_by (is_framed (kind_numbered kind)) (framed_from work.now kind p.atoms (q.atoms - p.atoms)) p) }
+fn take_line(work: &Area, kind: Kind, p: Pass, q: Pass) -> Pass
+    requires { Between work.now (number kind) p q }
+    ensures { result ≡ with_unframed q (unframed_by (is_framed (kind_numbered (number kind))) (framed_from work.now (number kind) p.atoms (q.atoms - p.atoms)) p) }
 {
     let u = first_unframed(work, kind, p, q);
     with_unframed(q, u)
 }
 
 // The line with the word w. Its names are looked up once, as it is written.
-fn read_line(text: &[u8], work: &mut [u8], w: Word, p: Pass) -> Result<Pass, Refusal>
+fn read_line(text: &[u8], work: &mut Area, w: Word, p: Pass) -> Result<Pass, Refusal>
     requires { Begins text.now work.old p w × LineRoom text.now work.old p (line_after text.now w.end w.kind) × Written text.now work.old p }
     ensures { StepIs text.now work.old p (line_after text.now w.end w.kind) work.new result }
 {
-    let q = try_line(text, work, p, w.kind, w.end)?;
-    Ok(take_line(work, w.kind, p, q))
+    let kind = Kind::numbered(w.kind);
+    let q = try_line(text, work, p, kind, w.end)?;
+    Ok(take_line(work, kind, p, q))
 }
 
 // ALL LINES
@@ -189,9 +189,9 @@ fn first_pass(names: Names) -> Pass
 }
 
 // Names, types and targets of the n lines of a text that pass 1 takes, whose table and whose declarations stand in the work area.
-fn read_lines(text: &[u8], work: &mut [u8], names: Names, n: usize) -> Result<Pass, RefusedLine>
-    requires { (length text.now ≤ most_bytes) × (length work.old ≡ work_bytes) × TextTaken text.now × LineTable text.now work.old n × Declares text.now work.old work.old names }
-    ensures { ResolvedIs text.now work.new result × (length work.new ≡ work_bytes) }
+fn read_lines(text: &[u8], work: &mut Area, names: Names, n: usize) -> Result<Pass, RefusedLine>
+    requires { (length text.now ≤ most_bytes) × TextTaken text.now × LineTable text.now work.old n × Declares text.now work.old work.old names }
+    ensures { ResolvedIs text.now work.new result }
 {
     let mut p = first_pass(names);
     for i in 0..n {
@@ -210,9 +210,9 @@ fn read_lines(text: &[u8], work: &mut [u8], names: Names, n: usize) -> Result<Pa
 // THE TEXT
 
 // Pass 2 over a text of n lines that pass 1 takes: gives the first line that number 10 refuses, if any.
-fn resolve(text: &[u8], work: &mut [u8], n: usize) -> Result<Option<usize>, RefusedLine>
-    requires { (length text.now ≤ most_bytes) × (length work.old ≡ work_bytes) × TextTaken text.now × LineTable text.now work.old n }
-    ensures { ReadingIs text.now work.new result × (length work.new ≡ work_bytes) }
+fn resolve(text: &[u8], work: &mut Area, n: usize) -> Result<Option<usize>, RefusedLine>
+    requires { (length text.now ≤ most_bytes) × TextTaken text.now × LineTable text.now work.old n }
+    ensures { ReadingIs text.now work.new result }
 {
     let names = read_declarations::declare(text, work, n);
     let p = read_lines(text, work, names, n)?;
@@ -228,9 +228,8 @@ fn resolve(text: &[u8], work: &mut [u8], n: usize) -> Result<Option<usize>, Refu
 }
 
 // The text as tables in the work area, with the first line that number 10 refuses, if any; or its number and line.
-pub fn read(text: &[u8], work: &mut [u8]) -> Result<Option<usize>, RefusedLine>
-    requires { length work.old ≡ work_bytes }
-    ensures { ReadingIs text.now work.new result × (length work.new ≡ work_bytes) }
+pub fn read(text: &[u8], work: &mut Area) -> Result<Option<usize>, RefusedLine>
+    ensures { ReadingIs text.now work.new result }
 {
     if Machine::TEXT_BYTES < text.len() {
         return Err(RefusedLine {

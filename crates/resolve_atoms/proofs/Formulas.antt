@@ -18,8 +18,10 @@ use Rattle.read_bytes.specs.Sets.{in_set, FirstInSet}
 use Rattle.read_bytes.specs.declared.Set.TheVariants.{FieldEnd}
 use Rattle.read_bytes.proofs.Search.{true-false, both_true, up_to-within}
 use Rattle.read_atoms.specs.declared.Row.{Row}
-use Rattle.read_atoms.specs.Atoms.{atom_word, begins_atom, atom_row, begun_by}
-use Rattle.read_atoms.proofs.Atoms.{atom-begins, some_bytes, word-told}
+use Rattle.std.specs.Prelude.{Option, IsSome}
+use Rattle.tables.specs.declared.kinds.AtomKind.{AtomKind}
+use Rattle.read_atoms.specs.Atoms.{Begins, atom_word, begins_atom, atom_row, begun_by}
+use Rattle.read_atoms.proofs.Atoms.{kind-there, atom-begins, some_bytes, word-told}
 use Rattle.read_fields.specs.Cuts.{part, more, NextField}
 use Rattle.read_fields.proofs.Cuts.{byte-in, no_more, some_more, fields-from}
 use Rattle.read_fields.proofs.Formulas as Atoms
@@ -33,6 +35,7 @@ use Rattle.read_types.specs.declared.Fault.{Fault}
 use Rattle.read_types.specs.Verdicts.{Verdict, lower}
 use Rattle.read_types.proofs.Verdicts.{lower-assoc, lower_last, lower-good, not-bad}
 use Rattle.rules.specs.Syntax.{Program}
+use Rattle.tables.specs.Kinds.{kind_number}
 use Rattle.write_rows.specs.Puts.{put_atom}
 use Rattle.write_rows.specs.Holds as Holds
 use Rattle.tables.specs.Tables.{Declared}
@@ -77,16 +80,24 @@ module _ {t : List ℕ} {r : ℕ} (f : AtomFollows t r) where
         some = λ l. some_more t r f.byte ∙ fields-from t (r + 1) (r + 1 + word-length) word-found;
       }
 
+  word-begins : begins_atom (take word-length (drop (r + 1) t)) ≡ true
+  word-begins =
+      let w = take word-length (drop (r + 1) t) in
+      let z : r + 1 + word-length - (r + 1) ≡ word-length = omega arith in
+      first_word f.most w _ (rw (word_next.some (omega arith), z) at f.form)
+
   -- its first letter tells it
   word-is : atom_word (begun_by (get_or t (r + 1) 0)) ≡ take word-length (drop (r + 1) t)
   word-is =
       let d = drop (r + 1) t in
       let w = take word-length d in
-      let z : r + 1 + word-length - (r + 1) ≡ word-length = omega arith in
-      let e : begins_atom w ≡ true = first_word f.most w _ (rw (word_next.some (omega arith), z) at f.form) in
+      let e : begins_atom w ≡ true = word-begins in
       let n : length w ≡ word-length = length-take-le word-length d (up_to-within (in_set FieldEnd) d) in
       let b : get_or w 0 0 ≡ get_or t (r + 1) 0 = get_or-take word-length d 0 0 (omega (arith, n, some_bytes w e)) ∙ (get_or-drop (r + 1) t 0 0 ∙ ap (λ k. get_or t k 0) (add-zero (r + 1))) in
       ap (λ b. atom_word (begun_by b)) (sym b) ∙ word-told w e
+
+  pub letter-kind : (b : ℕ) (o : Option AtomKind) → b ≡ get_or t (r + 1) 0 → Begins b o → IsSome o
+  letter-kind b o e h = kind-there b o h (ap (λ b. begins_atom (atom_word (begun_by b))) e ∙ (ap begins_atom word-is ∙ word-begins))
 
   module _ (k : ℕ) (i : k ≡ begun_by (get_or t (r + 1) 0)) (q : Row) (j : q ≡ atom_row k) where
     bytes-are : q.bytes ≡ word-length
@@ -155,7 +166,7 @@ module _
 
     pub next-put :
         (k : AreaFits w c) (n : ℕ) (q : Result AtomRow Fault) (a : AtomRow) (u : List ℕ) → n < most_atom_rows →
-        AtomTried (declarations_in t w c) (variables_in t w c) here q → q ≡ Ok a → u ≡ put_atom w n a.kind a.left a.right →
+        AtomTried (declarations_in t w c) (variables_in t w c) here q → q ≡ Ok a → u ≡ put_atom w n (kind_number a.kind) a.left a.right →
         NextTried t w c r n u (record { end = z; verdict = Ok tt })
     unfolding AtomTried
     next-put k n q a u l y i e =
@@ -170,10 +181,10 @@ module _
           is = formula-on;
           built = λ good D F i φ b.
               subst (λ v. Building D v F i (n + 1) (φ ++ (resolve_atom (declarations_in t w c) (variables_in t w c) here ∷ []))) (sym e)
-              (subst (λ y. Building D (put_atom w n a.kind a.left a.right) F i (n + 1) (φ ++ (y ∷ []))) x.1.is
-              (atom-written D w F i n φ a.kind a.left a.right l x.1.ok b));
-          names = subst (Kept names_at work_bytes w) (sym e) (atom-names w n a.kind a.left a.right k.whole l x.1.ok);
-          size = ap length e ∙ atom-length w n a.kind a.left a.right k.whole l x.1.ok;
+              (subst (λ y. Building D (put_atom w n (kind_number a.kind) a.left a.right) F i (n + 1) (φ ++ (y ∷ []))) x.1.is
+              (atom-written D w F i n φ (kind_number a.kind) a.left a.right l x.1.ok b));
+          names = subst (Kept names_at work_bytes w) (sym e) (atom-names w n (kind_number a.kind) a.left a.right k.whole l x.1.ok);
+          size = ap length e ∙ atom-length w n (kind_number a.kind) a.left a.right k.whole l x.1.ok;
         }
 
     pub next-bad :
@@ -197,7 +208,7 @@ module _
 
 -- the row of an atom that was tried
 pub row_ok : (Γ : Declarations) (vs : List Variable) (x : Atom Name) (q : Result AtomRow Fault) (a : AtomRow) → AtomTried Γ vs x q → q ≡ Ok a →
-    AtomOk a.kind a.left a.right
+    AtomOk (kind_number a.kind) a.left a.right
 unfolding AtomTried
 row_ok Γ vs x q a y i =
     let z : (atom_judged Γ vs x ≡ Ok tt) × Resolved Γ vs x a = subst (AtomTried Γ vs x) i y in z.1.ok

@@ -26,6 +26,8 @@ use Rattle.read_atoms.proofs.Atoms.{atom-begins, kind-bounds, permission-of, com
 use Rattle.tables.specs.declared.Expr as Tables
 use Rattle.tables.specs.Numbers.{read_atom, chain_atom, eq_atom, ne_atom}
 use Rattle.tables.specs.Layout.{most_names, frame_variables}
+use Rattle.tables.specs.declared.kinds.AtomKind.{AtomKind}
+use Rattle.tables.specs.Kinds.{kind_number}
 use Rattle.tables.specs.Decode as Decode
 use Rattle.tables.specs.Stores.{meaning}
 use Rattle.read_scopes.specs.declared.Names as Declared
@@ -164,10 +166,13 @@ module _ (t w : List ℕ) (c : Declared.Names) (fits : NamesFit c) where
       go (path x f) i h = path-fits x f h
 
   -- ATOMS
-  module _ (k : ℕ) (a : IsAccess k) (x f : Name) where
+  module _ (kind : AtomKind) (a : IsAccess (kind_number kind)) (x f : Name) where
+    abbrev k : ℕ
+    k = kind_number kind
+
     access-is :
         (l : Tables.Expr) → expr_judged Γ vs (path x f) ≡ Ok tt → meaning l ≡ resolve_expr Γ vs (path x f) →
-        Resolved Γ vs (own (Decode.permit_of k) x f) (record { kind = k; left = l; right = Tables.Expr.Null })
+        Resolved Γ vs (own (Decode.permit_of k) x f) (record { kind = kind; left = l; right = Tables.Expr.Null })
     unfolding resolve_expr resolve_atom Holds.atom_of Decode.is_permission meaning SideFits
     access-is l g m =
         let p = path-access (Decode.permit_of k) l _ _ m in
@@ -179,27 +184,27 @@ module _ (t w : List ℕ) (c : Declared.Names) (fits : NamesFit c) where
     -- m: what was looked up
     pub permission-tried :
         (m : Member.Member) (r : Result AtomRow Fault) {u : Verdict} → MemberIs t w Γ vs x f u m → u ≡ atom_judged Γ vs (own (Decode.permit_of k) x f) →
-        r ≡ permission_row k m → AtomTried Γ vs (own (Decode.permit_of k) x f) r
+        r ≡ permission_row kind m → AtomTried Γ vs (own (Decode.permit_of k) x f) r
     unfolding permission_row row_if AtomTried atom_judged resolve_expr meaning
     permission-tried m r h i e = subst (AtomTried Γ vs (own (Decode.permit_of k) x f)) (sym e) (go m.verdict (sym (h.verdict ∙ i)))
       where
         go :
             (v : Verdict) → atom_judged Γ vs (own (Decode.permit_of k) x f) ≡ v →
             AtomTried Γ vs (own (Decode.permit_of k) x f)
-            (row_if v (record { kind = k; left = Tables.Expr.Path m.variable m.number; right = Tables.Expr.Null }))
+            (row_if v (record { kind = kind; left = Tables.Expr.Path m.variable m.number; right = Tables.Expr.Null }))
         go (Ok u) g =
             (g, access-is (Tables.Expr.Path m.variable m.number) (then-good (expr_judged Γ vs (path x f)) _ g).0 (ap₂ path h.variable.number h.number))
         go (Err b) g = g
 
   pub compared_is :
-      (k : ℕ) (a b : Name) (l r : Tables.Expr) → IsRelation k →
+      (kind : AtomKind) (a b : Name) (l r : Tables.Expr) → IsRelation (kind_number kind) →
       expr_judged Γ vs (expr_of a) ≡ Ok tt → expr_judged Γ vs (expr_of b) ≡ Ok tt → meaning l ≡ resolve_expr Γ vs (expr_of a) →
       meaning r ≡ resolve_expr Γ vs (expr_of b) →
-      Resolved Γ vs (cmp (Decode.rel_of k) (expr_of a) (expr_of b)) (record { kind = k; left = l; right = r })
+      Resolved Γ vs (cmp (Decode.rel_of (kind_number kind)) (expr_of a) (expr_of b)) (record { kind = kind; left = l; right = r })
   unfolding resolve_atom Holds.atom_of Decode.is_permission
-  compared_is k a b l r i p q m n =
+  compared_is kind a b l r i p q m n =
       record {
-        is = rw (le-ltb k eq_atom i.0, m, n);
+        is = rw (le-ltb (kind_number kind) eq_atom i.0, m, n);
         ok =
             record {
               least = omega (arith, i.0);
@@ -210,35 +215,35 @@ module _ (t w : List ℕ) (c : Declared.Names) (fits : NamesFit c) where
             };
       }
 
-  module _ (k : ℕ) (a b : Name) (l r : Lookup.Lookup) (p : LookIs t Γ vs (expr_of a) l) (q : LookIs t Γ vs (expr_of b) r) where
+  module _ (kind : AtomKind) (a b : Name) (l r : Lookup.Lookup) (p : LookIs t Γ vs (expr_of a) l) (q : LookIs t Γ vs (expr_of b) r) where
     -- the tests of a comparison, by what the look-ups of its sides say
     compared-judged :
-        atom_judged Γ vs (cmp (Decode.rel_of k) (expr_of a) (expr_of b))
+        atom_judged Γ vs (cmp (Decode.rel_of (kind_number kind)) (expr_of a) (expr_of b))
         ≡ and_then (lower l.verdict r.verdict) (test (Names.agree (type_meant t l.is) (type_meant t r.is)) Fault.WrongType (Ok tt))
     unfolding atom_judged
     compared-judged = rw (p.verdict, q.verdict, p.is, q.is)
 
     -- v: the verdict of both
     module _ {v : Verdict} (e : v ≡ lower l.verdict r.verdict) where
-      pub side-bad : {f : Fault} → v ≡ Err f → AtomTried Γ vs (cmp (Decode.rel_of k) (expr_of a) (expr_of b)) (Err f)
+      pub side-bad : {f : Fault} → v ≡ Err f → AtomTried Γ vs (cmp (Decode.rel_of (kind_number kind)) (expr_of a) (expr_of b)) (Err f)
       unfolding AtomTried and_then
       side-bad u = compared-judged ∙ rw (sym e ∙ u)
 
       module _ (good : v ≡ Ok tt) where
         pub apart-bad :
             Names.agree (type_meant t l.is) (type_meant t r.is) ≡ false →
-            AtomTried Γ vs (cmp (Decode.rel_of k) (expr_of a) (expr_of b)) (Err Fault.WrongType)
+            AtomTried Γ vs (cmp (Decode.rel_of (kind_number kind)) (expr_of a) (expr_of b)) (Err Fault.WrongType)
         unfolding AtomTried and_then test
         apart-bad y = compared-judged ∙ rw (sym e ∙ good, y)
 
         pub compared-row :
-            IsRelation k → Names.agree (type_meant t l.is) (type_meant t r.is) ≡ true →
-            AtomTried Γ vs (cmp (Decode.rel_of k) (expr_of a) (expr_of b)) (Ok (record { kind = k; left = l.expr; right = r.expr }))
+            IsRelation (kind_number kind) → Names.agree (type_meant t l.is) (type_meant t r.is) ≡ true →
+            AtomTried Γ vs (cmp (Decode.rel_of (kind_number kind)) (expr_of a) (expr_of b)) (Ok (record { kind = kind; left = l.expr; right = r.expr }))
         unfolding AtomTried and_then test
         compared-row i y =
             let s = lower-good l.verdict r.verdict (sym e ∙ good) in (
               compared-judged ∙ rw (sym e ∙ good, y),
-              compared_is k a b l.expr r.expr i (sym p.verdict ∙ s.0) (sym q.verdict ∙ s.1) p.expr q.expr,
+              compared_is kind a b l.expr r.expr i (sym p.verdict ∙ s.0) (sym q.verdict ∙ s.1) p.expr q.expr,
             )
 
 -- THE ATOM OF A KIND

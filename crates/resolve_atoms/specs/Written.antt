@@ -9,6 +9,8 @@ use Rattle.rules.specs.Scope.{Declarations, Variable}
 use Rattle.rules.specs.Items.{resolve_atom}
 use Rattle.read_fields.specs.Cuts.{more}
 use Rattle.tables.specs.declared.Expr.{Expr}
+use Rattle.tables.specs.declared.kinds.AtomKind.{AtomKind}
+use Rattle.tables.specs.Kinds.{kind_number}
 use Rattle.tables.specs.Numbers.{eq_atom, ne_atom}
 use Rattle.tables.specs.Layout.{names_at, most_atom_rows}
 use Rattle.tables.specs.Stores.{Kept}
@@ -29,8 +31,8 @@ IsRelation k = (eq_atom ≤ k) × (k ≤ ne_atom)
 
 -- the row r is the atom x, resolved
 pub record Resolved (Γ : Declarations) (vs : List Variable) (x : Atom Name) (r : AtomRow) : Type 0 where
-  pub is : atom_of r.kind r.left r.right ≡ resolve_atom Γ vs x
-  pub ok : AtomOk r.kind r.left r.right
+  pub is : atom_of (kind_number r.kind) r.left r.right ≡ resolve_atom Γ vs x
+  pub ok : AtomOk (kind_number r.kind) r.left r.right
 
 -- it has a row just if it is good
 unfoldable pub AtomTried : Declarations → List Variable → Atom Name → Result AtomRow Fault → Type 0
@@ -42,7 +44,7 @@ row_if (Ok u) r = Ok r
 row_if (Err f) r = Err f
 
 -- the permission of the kind k to what was looked up, if that is good
-unfoldable pub permission_row : ℕ → Member → Result AtomRow Fault
+unfoldable pub permission_row : AtomKind → Member → Result AtomRow Fault
 permission_row k m = row_if m.verdict (record { kind = k; left = Expr.Path m.variable m.number; right = Expr.Null })
 
 -- by the rows of names in w

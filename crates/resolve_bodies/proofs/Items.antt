@@ -15,6 +15,9 @@ use Rattle.rules.specs.Base.{Name, any, all}
 use Rattle.rules.specs.Limits.{work_bytes, most_methods, most_statements, most_atoms}
 use Rattle.rules.specs.Syntax.{Atom, Formula, own, cmp}
 use Rattle.rules.specs.Text.{rel_of, expr_of, is_condition, is_formula, formula_of}
+use Rattle.rules.specs.declared.Kind as Numbered
+use Rattle.rules.specs.declared.Kind.TheVariants as Variants
+use Rattle.rules.specs.Numbered.{number}
 use Rattle.rules.specs.Grammar as Grammar
 use Rattle.rules.specs.Grammar.{Kind, Statement, Line, statement, form, first_statement, IsKindNumber, IsStatementNumber, is_formed, is_tail}
 use Rattle.rules.specs.Grammar.{is_kind, is_statement, kind_number, statement_number}
@@ -26,7 +29,7 @@ use Rattle.rules.proofs.LineKinds.{every-kind}
 use Rattle.read_bytes.proofs.Search.{true-false, both_true}
 use Rattle.read_fields.specs.Cuts.{more}
 use Rattle.read_grammar.specs.Rows.{kind_numbered}
-use Rattle.read_grammar.proofs.Rows.{NoneOf, number-of-kind, kind-of-number, kind-numbered, statement-numbered}
+use Rattle.read_grammar.proofs.Rows.{number-of-kind, kind-of-number, kind-numbered, statement-numbered}
 use Rattle.tables.specs.Layout.{names_at, most_atom_rows, most_line_atoms, atom_limit}
 use Rattle.tables.specs.Decode as Decode
 use Rattle.tables.specs.Decode.{run, byte_at, atom_place, left_at, right_at, atom_at, atoms_from, framed_from}
@@ -105,6 +108,11 @@ not-framed k h n m =
       ne_eqb 17 k (λ z. n (sym z)),
       ne_eqb 21 k (λ z. m (sym z)),
     )
+
+-- n is none of these
+abbrev NoneOf : ℕ → List ℕ → Type 0
+NoneOf n [] = Unit {0}
+NoneOf n (k ∷ ks) = NoneOf n ks × (n ≡ k → ⊥)
 
 none_any : (n : ℕ) (ks : List ℕ) → NoneOf n ks → any (eqb n) ks ≡ false
 unfolding any
@@ -270,8 +278,12 @@ claim-is k i =
         subst (λ k. Formulaic (kind_numbered k) (λ φ. a_statement (claim_of k φ))) (sym e)
         (subst (λ L. Formulaic L (λ φ. a_statement (claim_of (kind_number K) φ))) (sym (kind-of-number K)) x)
 
-pub claim-at : (m k : ℕ) → is_claim m ≡ true → k ≡ m → is_claim k ≡ true
-claim-at m k i e = ap is_claim e ∙ i
+pub claims : {k : Numbered.Kind} → (k ≡ Variants.Assert) ⊎ ((k ≡ Variants.Release) ⊎ ((k ≡ Variants.Join) ⊎ (k ≡ Variants.Loop))) → is_claim (number k) ≡ true
+unfolding is_claim
+claims (inl z) = ap (λ k. is_claim (number k)) z
+claims (inr (inl z)) = ap (λ k. is_claim (number k)) z
+claims (inr (inr (inl z))) = ap (λ k. is_claim (number k)) z
+claims (inr (inr (inr z))) = ap (λ k. is_claim (number k)) z
 
 pub header-kind : (k : ℕ) → 4 ≤ k → k ≤ 5 → (k ≡ 4) ⊎ (k ≡ 5)
 header-kind k a b = ⊎_elim inl (λ n. inr (omega arith)) (decide_eq k 4)

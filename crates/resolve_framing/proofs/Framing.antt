@@ -6,24 +6,12 @@ use Prim.Native.Nat.{ℕ, zero, suc, ◌+◌, ◌-◌, ◌≤◌, ◌<◌}
 use native.Mathlib.Omega.{arith}
 use native.Mathlib.Nat.{add-zero, zero-add}
 use native.Mathlib.Numerals.{add-one}
-use lib.Dec.{ltb}
-use borrow.Author.Tests.{ne_eqb, le-ltb}
+use borrow.Author.Tests.{ne_eqb}
 use Rattle.rules.specs.Base.{any}
 use Rattle.rules.specs.Syntax.{Atom, Formula, is_path, own, cmp, path}
 use Rattle.rules.specs.Reading.{Access, framed_expr, framed}
-use Rattle.tables.specs.Numbers.{chain_atom, eq_atom}
 use Rattle.tables.specs.Decode.{run, byte_at, atom_place, atom_kind_at, is_permission, permit_of, rel_of, left_at, right_at, atom_at, atoms_from, framed_from}
 use Rattle.resolve_framing.specs.Framing.{access_at, is_access, is_of, accesses}
-
--- the kinds of `read` and `acc`
-pub is-access : (k : ℕ) → ltb k chain_atom ≡ is_permission k && is_path (permit_of k)
-unfolding is_permission permit_of is_path
-is-access zero = refl
-is-access (suc zero) = refl
-is-access (suc (suc zero)) = refl
-is-access (suc (suc (suc zero))) = refl
-is-access (suc (suc (suc (suc k)))) =
-    let n : ℕ = suc (suc (suc (suc k))) in rw (le-ltb n chain_atom (omega arith), le-ltb n eq_atom (omega arith))
 
 -- an atom by its sides
 module _ (w : List ℕ) (before : List Access) (i : ℕ) where

@@ -1,9 +1,9 @@
 // Number 10 over the atoms of a line.
 #![tactic(auto)]
 
-ghost use Rattle.std.specs.Prelude.{◌≡◌, ◌&&◌, [], ◌∷◌, ◌++◌, ◌+◌, ◌-◌, ◌≤◌, ◌<◌, length};
+ghost use Rattle.std.specs.Prelude.{◌≡◌, ◌&&◌, [], ◌∷◌, ◌++◌, ◌+◌, ◌-◌, ◌≤◌, ◌<◌};
+ghost use Rattle.rules.specs.Numbered.{number};
 ghost use Rattle.rules.specs.Grammar.{loop_kind};
-ghost use Rattle.rules.specs.Limits.{work_bytes};
 ghost use Rattle.rules.specs.Syntax.{path};
 ghost use Rattle.rules.specs.Reading.{framed_expr, framed};
 ghost use Rattle.tables.specs.Layout.{most_atom_rows};
@@ -12,18 +12,19 @@ ghost use Rattle.tables.specs.Stores.{meaning};
 ghost use Rattle.resolve_framing.specs.Framing.{access_at, is_access, is_of, accesses, sides_framed};
 
 use rules::Kind;
-use tables::{AtomKind, Expr};
+use tables::{Area, AtomKind, Expr};
 
 // W8: "For number 10, `read x f` serves as `acc x f` does."; `chain x f` does not.
-fn is_access(work: &[u8], a: usize) -> bool
-    requires { (length work.now ≡ work_bytes) × (a < most_atom_rows) }
+#[tactic(auto, unfolding(tables::specs::Kinds::kind_of, tables::specs::Decode::is_permission, tables::specs::Decode::permit_of, rules::specs::Syntax::is_path))]
+fn is_access(work: &Area, a: usize) -> bool
+    requires { a < most_atom_rows }
     ensures { result ≡ is_access work.now a }
 {
-    tables::atom_kind(work, a) < AtomKind::CHAIN
+    matches!(tables::atom_kind(work, a), AtomKind::Read | AtomKind::Acc)
 }
 
-fn is_of(work: &[u8], a: usize, x: usize, f: usize) -> bool
-    requires { (length work.now ≡ work_bytes) × (a < most_atom_rows) }
+fn is_of(work: &Area, a: usize, x: usize, f: usize) -> bool
+    requires { a < most_atom_rows }
     ensures { result ≡ is_of x f (access_at work.now a) }
 {
     if tables::atom_variable(work, a) != x {
@@ -33,8 +34,8 @@ fn is_of(work: &[u8], a: usize, x: usize, f: usize) -> bool
 }
 
 // Is the atom a `acc x f` or `read x f`?
-fn is_access_of(work: &[u8], a: usize, x: usize, f: usize) -> bool
-    requires { (length work.now ≡ work_bytes) × (a < most_atom_rows) }
+fn is_access_of(work: &Area, a: usize, x: usize, f: usize) -> bool
+    requires { a < most_atom_rows }
     ensures { result ≡ is_access work.now a && is_of x f (access_at work.now a) }
 {
     if !is_access(work, a) {
@@ -44,8 +45,8 @@ fn is_access_of(work: &[u8], a: usize, x: usize, f: usize) -> bool
 }
 
 // Is one of n atoms from `first` on `acc x f` or `read x f`?
-fn has_access(work: &[u8], first: usize, n: usize, x: usize, f: usize) -> bool
-    requires { (length work.now ≡ work_bytes) × (first + n ≤ most_atom_rows) }
+fn has_access(work: &Area, first: usize, n: usize, x: usize, f: usize) -> bool
+    requires { first + n ≤ most_atom_rows }
     ensures { result ≡ framed_expr (accesses work.now first n) (path x f) }
 {
     for i in (0..n).rev() {
@@ -57,8 +58,8 @@ fn has_access(work: &[u8], first: usize, n: usize, x: usize, f: usize) -> bool
 }
 
 // A side of an atom, after n atoms from `first` on.
-fn framed_side(work: &[u8], first: usize, n: usize, e: Expr) -> bool
-    requires { (length work.now ≡ work_bytes) × (first + n ≤ most_atom_rows) }
+fn framed_side(work: &Area, first: usize, n: usize, e: Expr) -> bool
+    requires { first + n ≤ most_atom_rows }
     ensures { result ≡ framed_expr (accesses work.now first n) (meaning e) }
 {
     let Expr::Path(x, f) = e else {
@@ -68,8 +69,8 @@ fn framed_side(work: &[u8], first: usize, n: usize, e: Expr) -> bool
 }
 
 // Both sides of the atom a.
-fn framed_sides(work: &[u8], first: usize, n: usize, a: usize) -> bool
-    requires { (length work.now ≡ work_bytes) × (first + n ≤ most_atom_rows) × (a < most_atom_rows) }
+fn framed_sides(work: &Area, first: usize, n: usize, a: usize) -> bool
+    requires { (first + n ≤ most_atom_rows) × (a < most_atom_rows) }
     ensures { result ≡ sides_framed work.now (accesses work.now first n) a }
 {
     if !framed_side(work, first, n, tables::left_at(work, a)) {
@@ -79,19 +80,19 @@ fn framed_sides(work: &[u8], first: usize, n: usize, a: usize) -> bool
 }
 
 // The atom a, after n atoms from `first` on.
-fn framed_atom(work: &[u8], first: usize, n: usize, a: usize) -> bool
-    requires { (length work.now ≡ work_bytes) × (first + n ≤ most_atom_rows) × (a < most_atom_rows) }
+fn framed_atom(work: &Area, first: usize, n: usize, a: usize) -> bool
+    requires { (first + n ≤ most_atom_rows) × (a < most_atom_rows) }
     ensures { result ≡ framed (accesses work.now first n) (atom_at work.now a ∷ []) }
 {
-    if tables::atom_kind(work, a) < AtomKind::EQ {
-        return true;
+    match tables::atom_kind(work, a) {
+        AtomKind::Read | AtomKind::Acc | AtomKind::Chain => true,
+        AtomKind::Eq | AtomKind::Ne => framed_sides(work, first, n, a),
     }
-    framed_sides(work, first, n, a)
 }
 
 // Has each path of the formula of `count` atoms from `first` on an access before it?
-fn framed(work: &[u8], first: usize, count: usize) -> bool
-    requires { (length work.now ≡ work_bytes) × (first + count ≤ most_atom_rows) }
+fn framed(work: &Area, first: usize, count: usize) -> bool
+    requires { first + count ≤ most_atom_rows }
     ensures { result ≡ framed [] (atoms_from work.now first count) }
 {
     for i in 0..count {
@@ -103,8 +104,8 @@ fn framed(work: &[u8], first: usize, count: usize) -> bool
 }
 
 // The first of these atoms as a condition, and the others as the invariant before it.
-fn framed_loop(work: &[u8], first: usize, count: usize) -> bool
-    requires { (length work.now ≡ work_bytes) × (1 ≤ count) × (first + count ≤ most_atom_rows) }
+fn framed_loop(work: &Area, first: usize, count: usize) -> bool
+    requires { (1 ≤ count) × (first + count ≤ most_atom_rows) }
     ensures { result ≡ framed [] (atoms_from work.now (first + 1) (count - 1) ++ (atom_at work.now first ∷ [])) }
 {
     let n = count - 1;
@@ -115,11 +116,11 @@ fn framed_loop(work: &[u8], first: usize, count: usize) -> bool
 }
 
 // Has each path of a line of this kind, with `count` atoms from `first` on, an access before it? Number 10 is about this.
-pub fn framed_line(work: &[u8], kind: u8, first: usize, count: usize) -> bool
-    requires { (length work.now ≡ work_bytes) × (kind ≡ loop_kind → 1 ≤ count) × (first + count ≤ most_atom_rows) }
-    ensures { result ≡ framed [] (framed_from work.now kind first count) }
+pub fn framed_line(work: &Area, kind: Kind, first: usize, count: usize) -> bool
+    requires { (number kind ≡ loop_kind → 1 ≤ count) × (first + count ≤ most_atom_rows) }
+    ensures { result ≡ framed [] (framed_from work.now (number kind) first count) }
 {
-    if kind == Kind::LOOP {
+    if kind == Kind::Loop {
         return framed_loop(work, first, count);
     }
     framed(work, first, count)

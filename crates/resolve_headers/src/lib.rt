@@ -2,6 +2,7 @@
 #![tactic(auto)]
 
 ghost use Rattle.std.specs.Prelude.{◌≡◌, true, ◌≤◌, ◌<◌, length};
+ghost use Rattle.rules.specs.Numbered.{number};
 ghost use Rattle.rules.specs.Limits.{most_bytes};
 ghost use Rattle.rules.specs.Grammar.{Class, Field, Method, Var, class_kind, field_kind, method_kind, var_kind};
 ghost use Rattle.tables.specs.Numbers.{half_values};
@@ -14,6 +15,7 @@ use read_scopes::{Above, Names, Range};
 use read_types::Fault;
 use resolve_pass::Pass;
 use rules::Kind;
+use tables::Area;
 
 // THE COUNTS
 
@@ -37,6 +39,7 @@ fn after(r: Range) -> usize
     r.first + r.count
 }
 
+#[tactic(auto, unfolding(resolve_pass::specs::Passes::above_after, resolve_pass::specs::Passes::next_range, rules::specs::Grammar::opened))]
 fn with_class(a: Above) -> Above
     requires { AboveFits a }
     ensures { result ≡ above_after Class a }
@@ -54,6 +57,7 @@ fn with_class(a: Above) -> Above
     }
 }
 
+#[tactic(auto, unfolding(resolve_pass::specs::Passes::one_more))]
 fn one_more(r: Range) -> Range
     requires { after r < half_values }
     ensures { result ≡ one_more r }
@@ -64,6 +68,7 @@ fn one_more(r: Range) -> Range
     }
 }
 
+#[tactic(auto, unfolding(resolve_pass::specs::Passes::above_after, rules::specs::Grammar::opened))]
 fn with_field(a: Above) -> Above
     requires { AboveFits a }
     ensures { result ≡ above_after Field a }
@@ -74,6 +79,7 @@ fn with_field(a: Above) -> Above
     }
 }
 
+#[tactic(auto, unfolding(resolve_pass::specs::Passes::above_after, rules::specs::Grammar::opened))]
 fn with_method(a: Above) -> Above
     requires { AboveFits a }
     ensures { result ≡ above_after Method a }
@@ -84,6 +90,7 @@ fn with_method(a: Above) -> Above
     }
 }
 
+#[tactic(auto, unfolding(resolve_pass::specs::Passes::with_block))]
 fn in_method(c: Names) -> Names
     ensures { result ≡ with_block true c }
 {
@@ -98,7 +105,7 @@ fn in_method(c: Names) -> Names
 // ONE LINE: its word ends at r
 
 // `class C`: the next class, if C is a new name. Its name stands in its row.
-fn put_class(text: &[u8], work: &mut [u8], p: Pass, r: usize) -> Result<Pass, Fault>
+fn put_class(text: &[u8], work: &mut Area, p: Pass, r: usize) -> Result<Pass, Fault>
     requires { PassFits text.now work.old p × (r ≤ length text.now) × FormedAfter text.now r Class × LineRoom text.now work.old p (line_after text.now r class_kind) }
     ensures { LineTried text.now work.old p (line_after text.now r class_kind) work.new result }
 {
@@ -121,24 +128,25 @@ fn put_main(p: Pass) -> Pass
 }
 
 // Tries the line of this kind (`class` or `main`) whose word ends at r.
+// It takes what `put_statement` and `put_header` of `resolve_bodies` take: the contracts tie each of these to the text and the pass (`LineRoom`, `Follows`).
 pub fn put_declaration(
     text: &[u8],
-    work: &mut [u8],
+    work: &mut Area,
     p: Pass,
-    kind: u8,
+    kind: Kind,
     r: usize,
 ) -> Result<Pass, Fault>
-    requires { PassFits text.now work.old p × (r ≤ length text.now) × DeclarationFollows text.now kind r × LineRoom text.now work.old p (line_after text.now r kind) }
-    ensures { LineTried text.now work.old p (line_after text.now r kind) work.new result }
+    requires { PassFits text.now work.old p × (r ≤ length text.now) × DeclarationFollows text.now (number kind) r × LineRoom text.now work.old p (line_after text.now r (number kind)) }
+    ensures { LineTried text.now work.old p (line_after text.now r (number kind)) work.new result }
 {
     match kind {
-        Kind::CLASS => put_class(text, work, p, r),
+        Kind::Class => put_class(text, work, p, r),
         _ => Ok(put_main(p)),
     }
 }
 
 // `field T f`, whose word ends at r: one more field of the last class, if T is a type and f a new name.
-pub fn put_field(text: &[u8], work: &mut [u8], p: Pass, r: usize) -> Result<Pass, Fault>
+pub fn put_field(text: &[u8], work: &mut Area, p: Pass, r: usize) -> Result<Pass, Fault>
     requires { PassFits text.now work.old p × (r ≤ length text.now) × FormedAfter text.now r Field × LineRoom text.now work.old p (line_after text.now r field_kind) × Held work.old p }
     ensures { LineTried text.now work.old p (line_after text.now r field_kind) work.new result }
 {
@@ -157,7 +165,7 @@ pub fn put_field(text: &[u8], work: &mut [u8], p: Pass, r: usize) -> Result<Pass
 
 // `method T m U w`, whose word ends at r: the next method, from the next row on, and its block, if T and U are types and m and
 // w new names.
-pub fn put_method(text: &[u8], work: &mut [u8], p: Pass, r: usize) -> Result<Pass, Fault>
+pub fn put_method(text: &[u8], work: &mut Area, p: Pass, r: usize) -> Result<Pass, Fault>
     requires { PassFits text.now work.old p × (r ≤ length text.now) × FormedAfter text.now r Method × LineRoom text.now work.old p (line_after text.now r method_kind) × Held work.old p }
     ensures { LineTried text.now work.old p (line_after text.now r method_kind) work.new result }
 {
@@ -178,7 +186,7 @@ pub fn put_method(text: &[u8], work: &mut [u8], p: Pass, r: usize) -> Result<Pas
 }
 
 // `var T x`, whose word ends at r: one more local, if T is a type and x a new name.
-pub fn put_var(text: &[u8], work: &mut [u8], p: Pass, r: usize) -> Result<Pass, Fault>
+pub fn put_var(text: &[u8], work: &mut Area, p: Pass, r: usize) -> Result<Pass, Fault>
     requires { PassFits text.now work.old p × (r ≤ length text.now) × FormedAfter text.now r Var × LineRoom text.now work.old p (line_after text.now r var_kind) }
     ensures { LineTried text.now work.old p (line_after text.now r var_kind) work.new result }
 {

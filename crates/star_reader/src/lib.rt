@@ -1,8 +1,7 @@
 // A text with the line `requires *`, read with its star as a formula without atoms; the star's line, its method and that method's classes.
 #![tactic(auto)]
 
-ghost use Rattle.std.specs.Prelude.{◌≡◌, pred, ◌≤◌, length};
-ghost use Rattle.rules.specs.Limits.{work_bytes};
+ghost use Rattle.std.specs.Prelude.{◌≡◌, pred, ◌≤◌};
 ghost use Rattle.rules.specs.Scope.{declarations};
 ghost use Rattle.rules.specs.Names.{class_number};
 ghost use Rattle.filling.specs.Sets.{header_of};
@@ -15,7 +14,7 @@ ghost use Rattle.star_reader.specs.StarRead.{headers_in, class_names, MethodHere
 use read_scopes::Names;
 use reader::{Refusal, RefusedLine};
 use rules::{Kind, Machine};
-use tables::HeaderAt;
+use tables::{Area, HeaderAt};
 
 // The star's line, and the first line that number 10 refuses, if any; the star's method, its class, and the class of its parameter.
 // No Option for an int's class: the definition `class_number` of the rules, which the contract cites, is the count of classes then.
@@ -47,15 +46,16 @@ impl From<RefusedLine> for NoStar {
 // THE STAR'S METHOD
 
 // The last method whose header is one of the first `line` lines.
-fn last_method(work: &[u8], line: usize) -> usize
-    requires { (length work.now ≡ work_bytes) × (line ≤ most_lines) }
+fn last_method(work: &Area, line: usize) -> usize
+    requires { line ≤ most_lines }
     ensures { result ≡ pred (headers_in work.now line) }
 {
     let mut last = 0;
     let mut next = 0;
     for i in 0..line {
         let w = read_scan::line_word(work, i);
-        if w.kind == Kind::METHOD {
+        // A byte of the table of lines, where 0 is no kind.
+        if w.kind == Kind::Method as u8 {
             last = next;
             next += 1;
         }
@@ -64,8 +64,7 @@ fn last_method(work: &[u8], line: usize) -> usize
 }
 
 // How many classes there are, to look one up by its name.
-fn class_names(work: &[u8]) -> Names
-    requires { length work.now ≡ work_bytes }
+fn class_names(work: &Area) -> Names
     ensures { result ≡ class_names work.now }
 {
     Names {
@@ -79,7 +78,7 @@ fn class_names(work: &[u8]) -> Names
 }
 
 // The class of a method's parameter.
-fn parameter_class(text: &[u8], work: &[u8], method: usize) -> usize
+fn parameter_class(text: &[u8], work: &Area, method: usize) -> usize
     requires { MethodHere text.now work.now method }
     ensures { result ≡ class_number (declarations (lines_of text.now)) (header_of (declarations (lines_of text.now)) method).parameter_type }
 {
@@ -88,7 +87,7 @@ fn parameter_class(text: &[u8], work: &[u8], method: usize) -> usize
     read_lookups::class_number(text, work, c, read_names::name_in(text, takes))
 }
 
-fn star_at(text: &[u8], work: &[u8], line: usize, unframed: Option<usize>) -> Star
+fn star_at(text: &[u8], work: &Area, line: usize, unframed: Option<usize>) -> Star
     requires { LineHere text.now work.now line }
     ensures { StarAt text.now line unframed result }
 {
@@ -109,7 +108,7 @@ fn star_at(text: &[u8], work: &[u8], line: usize, unframed: Option<usize>) -> St
 // By its copy, which is read.
 fn read_star(
     text: &[u8],
-    work: &[u8],
+    work: &Area,
     first: Option<usize>,
     second: Option<usize>,
     unframed: Option<usize>,
@@ -129,21 +128,20 @@ fn read_star(
 // By its copy, and the lines of the first two stars.
 fn read_copy(
     text: &[u8],
-    work: &mut [u8],
+    work: &mut Area,
     first: Option<usize>,
     second: Option<usize>,
 ) -> Result<Star, NoStar>
-    requires { HasText text.now first second × (length work.old ≡ work_bytes) }
-    ensures { CopyIs text.now work.new first second result × (length work.new ≡ work_bytes) }
+    requires { HasText text.now first second }
+    ensures { CopyIs text.now work.new first second result }
 {
     let unframed = reader::read(text, work)?;
     read_star(text, work, first, second, unframed)
 }
 
 // The text, which leaves its tables in the work area.
-pub fn read(text: &[u8], work: &mut [u8]) -> Result<Star, NoStar>
-    requires { length work.old ≡ work_bytes }
-    ensures { StarredIs text.now work.new result × (length work.new ≡ work_bytes) }
+pub fn read(text: &[u8], work: &mut Area) -> Result<Star, NoStar>
+    ensures { StarredIs text.now work.new result }
 {
     if Machine::TEXT_BYTES < text.len() {
         return Err(NoStar::Refused(RefusedLine {

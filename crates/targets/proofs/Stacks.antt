@@ -8,6 +8,7 @@ use native.Mathlib.Omega.{arith}
 use borrow.Author.Tests.{le-ltb, lt-ltb, ne_eqb}
 use lib.Dec.{eqb}
 use lib.ListN.{length}
+use Rattle.rules.specs.Grammar.{IsKindNumber}
 use Rattle.tables.specs.Decode.{kind_at, row_place}
 use Rattle.tables.proofs.BytesRead.{put-half-length}
 use Rattle.targets.specs.Targets.{power, stack_of, pushed, popped, replaced, open_after, put_target, closed, work_after, targets_from}
@@ -120,6 +121,19 @@ pub work-elsewhere : (w : List ℕ) (k i : ℕ) (st : List ℕ) → (k ≡ 16 �
 unfolding work_after
 work-elsewhere w k i [] a b d = refl
 work-elsewhere w k i (t ∷ st) a b d = closed-elsewhere w k i t a b d
+
+-- a row of no kind says nothing
+module _ (k i : ℕ) (st : List ℕ) (n : IsKindNumber k → ⊥) where
+  not-one : (j : ℕ) → 1 ≤ j → j ≤ 24 → k ≡ j → ⊥
+  not-one j a b e = n (omega (arith, a, e), omega (arith, b, e))
+
+  pub work-none : (w : List ℕ) → w ≡ work_after w k i st
+  work-none w = work-elsewhere w k i st (not-one 16 (omega arith) (omega arith)) (not-one 17 (omega arith) (omega arith)) (not-one 22 (omega arith) (omega arith))
+
+  pub open-none : st ≡ open_after k i st
+  open-none =
+      open-elsewhere k i st (not-one 15 (omega arith) (omega arith)) (not-one 16 (omega arith) (omega arith))
+      (not-one 17 (omega arith) (omega arith)) (not-one 21 (omega arith) (omega arith)) (not-one 22 (omega arith) (omega arith))
 
 -- the innermost row is the lowest byte
 pub innermost-closed : (w : List ℕ) (k i d s : ℕ) → (d ≡ 0 → ⊥) → closed w k i (s % 256) ≡ work_after w k i (stack_of d s)

@@ -7,6 +7,7 @@ ghost use Rattle.rules.specs.Fill.{is_starred};
 ghost use Rattle.unstarring.specs.Copies.{LineTo, with_star, LineCopied, Unstarred};
 
 use read_bytes::Byte;
+use rules::Machine;
 
 // The copy's length so far, and the lines of the first two stars, from 1.
 #[derive(Clone, Copy)]
@@ -30,6 +31,7 @@ fn line_end(text: &[u8], at: usize) -> usize
 }
 
 // Is a line, its LF with it, `requires` with the one field `*`?
+#[tactic(auto, unfolding(rules::specs::Fill::is_starred, rules::specs::Fill::requires_line, rules::specs::Fill::tabbed, rules::specs::Base::bytes))]
 fn is_starred(line: &[u8]) -> bool
     ensures { result ≡ is_starred line.now }
 {
@@ -47,6 +49,7 @@ fn put(bytes: &[u8], copy: &mut [u8], at: usize) -> usize
 }
 
 // One star more, at this line.
+#[tactic(auto, unfolding(crate::specs::Copies::with_star))]
 fn with_star(s: Stars, line: usize, len: usize) -> Stars
     ensures { result ≡ with_star s line len }
 {
@@ -78,9 +81,9 @@ fn put_line(line: &[u8], n: usize, copy: &mut [u8], s: Stars) -> Stars
 }
 
 // The text into the copy, line by line.
-pub fn unstar(text: &[u8], copy: &mut [u8]) -> Stars
-    requires { (length text.now ≤ most_bytes) × (length copy.old ≡ most_bytes) }
-    ensures { Unstarred text.now copy.new result × (length copy.new ≡ most_bytes) }
+pub fn unstar(text: &[u8], copy: &mut [u8; Machine::TEXT_BYTES]) -> Stars
+    requires { length text.now ≤ most_bytes }
+    ensures { Unstarred text.now copy.new result }
 {
     let mut s = Stars {
         len: 0,

@@ -11,14 +11,14 @@ use lib.Dec.{eqb}
 use lib.ListN.{length, drop}
 use borrow.Author.Tests.{eqb-true, ne_eqb}
 use Rattle.rules.specs.Base.{Name}
-use Rattle.rules.specs.Limits.{most_methods, most_statements, most_atoms}
+use Rattle.rules.specs.Limits.{work_bytes, most_methods, most_statements, most_atoms}
 use Rattle.rules.specs.Syntax.{Atom, Formula, own, cmp}
 use Rattle.rules.specs.Text.{is_atom, is_formula, formula_of}
 use Rattle.rules.proofs.Lists.{decide_eq}
 use Rattle.rules.specs.Items.{Item, resolve_atom, a_statement, a_requires, an_ensures}
 use Rattle.read_bytes.proofs.Search.{both_true, true-false}
 use Rattle.read_fields.specs.Cuts.{more}
-use Rattle.tables.specs.Layout.{atoms_at, most_line_atoms, atom_limit}
+use Rattle.tables.specs.Layout.{names_at, atoms_at, most_line_atoms, atom_limit}
 use Rattle.tables.specs.Decode as Decode
 use Rattle.tables.specs.Decode.{run, byte_at, atom_place, is_permission, permit_of, rel_of, left_at, right_at, atom_at, atoms_from, loop_at, method_place, stmt_of}
 use Rattle.tables.specs.Stores.{Kept}
@@ -241,38 +241,37 @@ module _ {t w : List ℕ} {c : Names} {r n m : ℕ} (x : FormulaFollows t w c mo
   count-is : e - n ≡ length (formula_after t w c r)
   count-is = omega (arith, y.count)
 
-  pub header-bytes : (n < 65536) × (e - n < 256)
+  header-bytes : (n < 65536) × (e - n < 256)
   header-bytes = omega (arith, x.room, count-is, formula-short x)
+
+  -- what both leave: it is what `item` makes of the formula, and only bytes of the method are stored
+  header-put :
+      {item : Formula ℕ → Item} (put : ℕ → List ℕ) →
+      ((D : Declared) (F : Program) (l : ℕ) → length F.methods ≡ suc m → Building D u F n e (formula_after t w c r) →
+      Holds D (put (length (formula_after t w c r))) (with_item F l (item (formula_after t w c r))) e) →
+      Kept atoms_at (atom_place e) u (put (e - n)) → Kept names_at work_bytes u (put (e - n)) → length (put (e - n)) ≡ length u →
+      {v : List ℕ} → v ≡ put (e - n) → HeaderPut item t w c r m n v e
+  header-put {item} put written atoms named long i =
+      record {
+        built = λ D F l k h.
+            subst (λ z. Holds D z (with_item F l (item (formula_after t w c r))) e) (sym (i ∙ ap put count-is)) (written D F l k (y.built D F h));
+        count = y.count;
+        formula = λ D F h. formula-stays u _ (y.built D F h) (subst (Kept atoms_at (atom_place e) u) (sym i) atoms);
+        names = λ p a d. ap (λ z. byte_at z p) i ∙ (named p a d ∙ y.names p a d);
+        size = ap length i ∙ (long ∙ y.size);
+      }
 
   pub requires-put : {v : List ℕ} → v ≡ put_requires u m n (e - n) → HeaderPut a_requires t w c r m n v e
   unfolding put_requires
-  requires-put i =
-      record {
-        built = λ D F l k h.
-            subst (λ z. Holds D z (with_item F l (a_requires (formula_after t w c r))) e) (sym (i ∙ ap (put_requires u m n) count-is))
-            (requires-written D u F n e (formula_after t w c r) m l k (formula-short x) (y.built D F h));
-        count = y.count;
-        formula = λ D F h.
-            formula-stays u _ (y.built D F h)
-            (subst (Kept atoms_at (atom_place e) u) (sym i) (put-kept u (method_place m) _ _ _ (inr (omega arith))));
-        names = λ p a d. ap (λ z. byte_at z p) i ∙ (requires-names u m n (e - n) room p a d ∙ y.names p a d);
-        size = ap length i ∙ (put-length u _ _ ∙ y.size);
-      }
+  requires-put =
+      header-put (put_requires u m n) (λ D F l k b. requires-written D u F n e (formula_after t w c r) m l k (formula-short x) b)
+      (put-kept u (method_place m) _ _ _ (inr (omega arith))) (requires-names u m n (e - n) room) (put-length u _ _)
 
   pub ensures-put : {v : List ℕ} → v ≡ put_ensures u m n (e - n) → HeaderPut an_ensures t w c r m n v e
   unfolding put_ensures
-  ensures-put i =
-      record {
-        built = λ D F l k h.
-            subst (λ z. Holds D z (with_item F l (an_ensures (formula_after t w c r))) e) (sym (i ∙ ap (put_ensures u m n) count-is))
-            (ensures-written D u F n e (formula_after t w c r) m l k (formula-short x) (y.built D F h));
-        count = y.count;
-        formula = λ D F h.
-            formula-stays u _ (y.built D F h)
-            (subst (Kept atoms_at (atom_place e) u) (sym i) (put-kept u (method_place m + 3) _ _ _ (inr (omega arith))));
-        names = λ p a d. ap (λ z. byte_at z p) i ∙ (ensures-names u m n (e - n) room p a d ∙ y.names p a d);
-        size = ap length i ∙ (put-length u _ _ ∙ y.size);
-      }
+  ensures-put =
+      header-put (put_ensures u m n) (λ D F l k b. ensures-written D u F n e (formula_after t w c r) m l k (formula-short x) b)
+      (put-kept u (method_place m + 3) _ _ _ (inr (omega arith))) (ensures-names u m n (e - n) room) (put-length u _ _)
 
 -- A FORMULA THAT WAS TRIED
 module _ (t w : List ℕ) (c : Names) (r n : ℕ) (u : List ℕ) (q : Result ℕ Fault) (y : FormulaTried t w c r n u q) where
@@ -292,6 +291,13 @@ module _ (t w : List ℕ) (c : Names) (r n : ℕ) (u : List ℕ) (q : Result ℕ
     pub header-bad : (item : Formula ℕ → Item) (m : ℕ) → HeaderTried item t w c r m n u (Err f)
     unfolding HeaderTried
     header-bad item m = tried-bad
+
+-- its atoms fit the row of the method m
+pub header-room :
+    {t w : List ℕ} {c : Names} {r n m : ℕ} → AreaFits w c → FormulaFollows t w c most_atoms r n → m < most_methods → (u : List ℕ) {q : Result ℕ Fault} →
+    FormulaTried t w c r n u q → {e : ℕ} → q ≡ Ok e → (n ≤ e) × ((m < most_methods) × ((n < 65536) × (e - n < 256)))
+header-room ready x room u y i =
+    let p = (tried-done _ _ _ _ _ _ _ y _ i).1 in (omega (arith, p.count), (room, header-bytes x room p))
 
 pub claim-done :
     (t w : List ℕ) (c : Names) (k r i n l : ℕ) (v : List ℕ) (m : ℕ) → judged_after t w c r ≡ Ok tt → ClaimPut t w c k r i n l v m →

@@ -9,7 +9,7 @@ use read_names::Span;
 use read_scopes::Names;
 use read_types::Fault;
 use rules::Kind;
-use tables::Operands;
+use tables::{Area, Operands};
 
 // Are x, y and z variables?
 pub fn are_known(x: usize, y: usize, z: usize) -> bool
@@ -25,33 +25,28 @@ pub fn are_known(x: usize, y: usize, z: usize) -> bool
 }
 
 // May a line name the method named at m of a class, if i, of n methods, is its number?
+#[tactic(auto, unfolding(read_types::specs::Verdicts::opened))]
 fn judge_method(text: &[u8], class: Span, m: Span, i: usize, n: usize) -> Result<(), Fault>
     ensures { result ≡ may_name text.now class m i n }
 {
-    if read_words::is_reserved(read_names::name_in(text, m)) {
-        return Err(Fault::Undeclared);
-    }
-    if read_lookups::is_int(text, class) {
-        return Err(Fault::WrongType);
-    }
+    let reserved = read_words::is_reserved(read_names::name_in(text, m));
+    read_types::test(!reserved, Fault::Undeclared)?;
+    read_types::test(!read_lookups::is_int(text, class), Fault::WrongType)?;
     read_types::test(i < n, Fault::Undeclared)
 }
 
 // May a call that reads y and z assign to x?
+#[tactic(auto, unfolding(read_types::specs::Verdicts::opened))]
 fn judge_target(x: usize, y: usize, z: usize) -> Result<(), Fault>
     ensures { result ≡ may_take x y z }
 {
-    if !crate::is_local(x) {
-        return Err(Fault::WrongTarget);
-    }
-    if x == y {
-        return Err(Fault::WrongTarget);
-    }
+    read_types::test(crate::is_local(x), Fault::WrongTarget)?;
+    read_types::test(x != y, Fault::WrongTarget)?;
     read_types::test(x != z, Fault::WrongTarget)
 }
 
 // Are x and z of the types of the result and of the parameter of the method i?
-fn call_agrees(text: &[u8], work: &[u8], c: Names, x: usize, z: usize, i: usize) -> bool
+fn call_agrees(text: &[u8], work: &Area, c: Names, x: usize, z: usize, i: usize) -> bool
     requires { AreaFits work.now c × (x ≤ frame_variables) × (z ≤ frame_variables) }
     ensures { result ≡ agree_with text.now work.now x z (get_or (declarations_in text.now work.now c).methods i no_declaration) }
 {
@@ -70,9 +65,10 @@ fn call_agrees(text: &[u8], work: &[u8], c: Names, x: usize, z: usize, i: usize)
 }
 
 // May the method named at m, which has the number i, be called of y, of this class?
+#[tactic(auto, unfolding(read_types::specs::Verdicts::opened))]
 fn judge_call(
     text: &[u8],
-    work: &[u8],
+    work: &Area,
     c: Names,
     x: usize,
     y: usize,
@@ -84,20 +80,16 @@ fn judge_call(
     requires { AreaFits work.now c × (x ≤ frame_variables) × (z ≤ frame_variables) }
     ensures { result ≡ may_call text.now work.now c x y z class m i }
 {
-    if !are_known(x, y, z) {
-        return Err(Fault::Undeclared);
-    }
+    read_types::test(are_known(x, y, z), Fault::Undeclared)?;
     judge_method(text, class, m, i, c.methods)?;
-    if !call_agrees(text, work, c, x, z, i) {
-        return Err(Fault::WrongType);
-    }
+    read_types::test(call_agrees(text, work, c, x, z, i), Fault::WrongType)?;
     judge_target(x, y, z)
 }
 
 // `call x y m z`
 pub fn call_row(
     text: &[u8],
-    work: &[u8],
+    work: &Area,
     c: Names,
     r: usize,
     line: usize,
@@ -115,5 +107,5 @@ pub fn call_row(
     let class = read_lookups::type_of(work, y);
     let m = read_lookups::method_number(text, work, c, class, read_names::name_in(text, d));
     let v = judge_call(text, work, c, x, y, z, class, d, m);
-    crate::row_if(v, crate::row(Kind::CALL, x, y, z, m, line))
+    crate::row_if(v, crate::row(Kind::Call, x, y, z, m, line))
 }

@@ -1,6 +1,5 @@
 // The rows of `open` and `shut`, which name a chain.
 ghost use Rattle.std.specs.Prelude.{◌≡◌, ◌≤◌, length};
-ghost use Rattle.rules.specs.Limits.{work_bytes};
 ghost use Rattle.tables.specs.Layout.{frame_variables};
 ghost use Rattle.read_names.specs.Rows.{name_in};
 ghost use Rattle.read_scopes.specs.Meanings.{AreaFits};
@@ -11,10 +10,10 @@ use read_names::Span;
 use read_scopes::Names;
 use read_types::{Fault, Member};
 use rules::Kind;
-use tables::Operands;
+use tables::{Area, Operands};
 
 // `chain x f`, by the places of both names
-fn chain_at(text: &[u8], work: &[u8], c: Names, x: Span, f: Span) -> Member
+fn chain_at(text: &[u8], work: &Area, c: Names, x: Span, f: Span) -> Member
     requires { AreaFits work.now c }
     ensures { ChainIn text.now work.now c (name_in text.now x) (name_in text.now f) result }
 {
@@ -28,31 +27,27 @@ fn chain_at(text: &[u8], work: &[u8], c: Names, x: Span, f: Span) -> Member
 }
 
 // May the chain x.f be opened as y?
-fn judge_open(text: &[u8], work: &[u8], x: Member, y: usize) -> Result<(), Fault>
-    requires { (length work.now ≡ work_bytes) × (x.variable ≤ frame_variables) × (y ≤ frame_variables) }
+#[tactic(auto, unfolding(read_types::specs::Verdicts::opened))]
+fn judge_open(text: &[u8], work: &Area, x: Member, y: usize) -> Result<(), Fault>
+    requires { (x.variable ≤ frame_variables) × (y ≤ frame_variables) }
     ensures { result ≡ may_open text.now work.now x y }
 {
-    if read_names::NO_VARIABLE <= y {
-        return Err(Fault::Undeclared);
-    }
+    read_types::test(y < read_names::NO_VARIABLE, Fault::Undeclared)?;
     x.verdict?;
-    if !read_lookups::same_name(
+    let same = read_lookups::same_name(
         text,
         read_lookups::type_of(work, y),
         read_lookups::type_of(work, x.variable),
-    ) {
-        return Err(Fault::WrongType);
-    }
-    if !crate::is_local(y) {
-        return Err(Fault::WrongTarget);
-    }
+    );
+    read_types::test(same, Fault::WrongType)?;
+    read_types::test(crate::is_local(y), Fault::WrongTarget)?;
     read_types::test(y != x.variable, Fault::WrongTarget)
 }
 
 // `open y x f`, the word of which ends at r
 pub fn open_row(
     text: &[u8],
-    work: &[u8],
+    work: &Area,
     c: Names,
     r: usize,
     line: usize,
@@ -66,13 +61,13 @@ pub fn open_row(
     let y = crate::variable_at(text, work, c, a);
     let x = chain_at(text, work, c, b, d);
     let v = judge_open(text, work, x, y);
-    crate::row_if(v, crate::row(Kind::OPEN, y, x.variable, 0, x.number, line))
+    crate::row_if(v, crate::row(Kind::Open, y, x.variable, 0, x.number, line))
 }
 
 // `shut x f`
 pub fn shut_row(
     text: &[u8],
-    work: &[u8],
+    work: &Area,
     c: Names,
     r: usize,
     line: usize,
@@ -85,6 +80,6 @@ pub fn shut_row(
     let x = chain_at(text, work, c, a, b);
     crate::row_if(
         x.verdict,
-        crate::row(Kind::SHUT, x.variable, 0, 0, x.number, line),
+        crate::row(Kind::Shut, x.variable, 0, 0, x.number, line),
     )
 }

@@ -9,7 +9,7 @@ use lib.ListN.{length, get_or}
 use borrow.Author.Count.{below_more}
 use borrow.Author.Tests.{ltb-true}
 use Rattle.rules.specs.Limits.{work_bytes}
-use Rattle.rules.specs.Syntax.{Permit, Atom, Formula, Expr, num, var, path, own, if}
+use Rattle.rules.specs.Syntax.{Permit, Atom, Formula, num, var, path, own, if}
 use Rattle.rules.specs.Syntax.{Program}
 use Rattle.tables.specs.declared.Expr as Tables
 use Rattle.rules.proofs.Lists.{T_true}

@@ -1,5 +1,6 @@
 -- `let` and `if`: the atom and the row fit, and mean the line's statement.
 use Rattle.std.proofs.Common.{Result, Ok, Err}
+use Rattle.std.specs.Prelude.{Option, IsSome}
 use mathlib.Core.Path.{◌≡◌, refl, sym, ap, subst, ◌∙◌}
 use mathlib.Core.Bool.{Bool, true, false, cond, ◌&&◌}
 use mathlib.Core.List.{List, [], ◌∷◌}
@@ -24,8 +25,9 @@ use Rattle.rules.specs.Names.{is_local, agree, in_scope, variable_number, variab
 use Rattle.rules.specs.Items as Items
 use Rattle.rules.specs.Items.{resolve_atom, item_of, a_statement}
 use Rattle.read_bytes.proofs.Search.{both_true, true-false, or-true}
-use Rattle.read_atoms.specs.Atoms.{atom_word, begins_atom, begun_by}
-use Rattle.read_atoms.proofs.Atoms.{of-atom-word, atom-begins, word-told}
+use Rattle.tables.specs.declared.kinds.AtomKind.{AtomKind}
+use Rattle.read_atoms.specs.Atoms.{Begins, atom_word, begins_atom, begun_by}
+use Rattle.read_atoms.proofs.Atoms.{kind-there, of-atom-word, atom-begins, word-told}
 use Rattle.read_fields.specs.Cuts.{more}
 use Rattle.tables.specs.declared.Expr as Tables
 use Rattle.tables.specs.Numbers.{eq_atom}
@@ -45,6 +47,7 @@ use Rattle.read_types.specs.Types.{expr_judged, LookIs}
 use Rattle.read_types.proofs.Verdicts.{lower_last, then-good, test_good}
 use Rattle.rules.specs.Syntax.{Program}
 use Rattle.rules.specs.Reading.{with_item}
+use Rattle.tables.specs.Kinds.{kind_number}
 use Rattle.write_rows.specs.Puts.{put_atom, put_row}
 use Rattle.tables.specs.Tables.{SideFits, Declared, OperandsFit}
 use Rattle.write_rows.specs.Holds as Holds
@@ -252,7 +255,7 @@ module _ (t w : List ℕ) (c : Counts.Names) (r i n l : ℕ) (ready : AreaFits w
         unfolding meaning SideFits
         let-atom =
             let g = let-known.1 in
-            let o = (compared_is t w c ready.fits eq_atom (get_or ws 1 []) (get_or ws 1 []) e.expr e.expr (omega arith) g g E.expr E.expr).ok in
+            let o = (compared_is t w c ready.fits AtomKind.Eq (get_or ws 1 []) (get_or ws 1 []) e.expr e.expr (omega arith) g g E.expr E.expr).ok in
             record { least = omega arith; kind = omega arith; left = tt; right = o.right; access = λ z. absurd (omega arith) }
 
         let-put :
@@ -287,24 +290,31 @@ module _ (t w : List ℕ) (c : Counts.Names) (r i n l : ℕ) (ready : AreaFits w
     atom = atom_of (get_or ws 0 []) (get_or ws 1 []) (get_or ws 2 [])
 
     if-put :
-        (s : AtomRow) {u v : List ℕ} → Resolved Γ vs atom s → u ≡ put_atom w n s.kind s.left s.right →
+        (s : AtomRow) {u v : List ℕ} → Resolved Γ vs atom s → u ≡ put_atom w n (kind_number s.kind) s.left s.right →
         v ≡ put_row u i (one_row 15 0 n l) → SidePut If t w c r i n l v (n + 1)
     unfolding item_of Items.resolve_statement Items.resolve_if Scopes.operand resolve_atom
     if-put s o e f =
         let means =
-        condition-is s.kind s.left s.right _ _ _ (o.is ∙ ap (resolve_atom Γ vs) if-formed.compared) in
+        condition-is (kind_number s.kind) s.left s.right _ _ _ (o.is ∙ ap (resolve_atom Γ vs) if-formed.compared) in
         record {
           count = refl;
           built = λ D F j h.
               subst (λ z. Holds D z (with_item F l (item_of Γ vs (statement If) (line_with (statement If) ws))) (n + 1))
-              (stored y.room 15 0 s.kind s.left s.right o.ok e f F j)
-              (subst (λ z. Holds D (put_row (put_atom w n s.kind s.left s.right) (length F.rows) (one_row 15 0 n l)) (with_item F l (a_statement z)) (n + 1))
+              (stored y.room 15 0 (kind_number s.kind) s.left s.right o.ok e f F j)
+              (subst (λ z. Holds D (put_row (put_atom w n (kind_number s.kind) s.left s.right) (length F.rows) (one_row 15 0 n l)) (with_item F l (a_statement z)) (n + 1))
               means
-              (if-written D w F n s.kind s.left s.right (one_row 15 0 n l) y.room (omega (arith, j, few)) o.ok
+              (if-written D w F n (kind_number s.kind) s.left s.right (one_row 15 0 n l) y.room (omega (arith, j, few)) o.ok
               (one_ok D 15 0 n l (inr refl) (omega arith)) refl h refl));
-          names = names-kept y.room 15 0 s.kind s.left s.right o.ok e f;
-          size = size-kept y.room 15 0 s.kind s.left s.right o.ok e f;
+          names = names-kept y.room 15 0 (kind_number s.kind) s.left s.right o.ok e f;
+          size = size-kept y.room 15 0 (kind_number s.kind) s.left s.right o.ok e f;
         }
+
+    pub if-kind :
+        {a : Span} {u : Name} {b : ℕ} (o : Option AtomKind) → SpanAfter t r a → u ≡ name_in t a → b ≡ get_or u 0 0 → Begins b o → IsSome o
+    if-kind {a} {u} {b} o p eu eb h =
+        let e : u ≡ get_or ws 0 [] = eu ∙ p.name in
+        let w : begins_atom u ≡ true = subst (λ z. begins_atom z ≡ true) (sym e) (atom-begins _ _ _ if-formed.form) in
+        kind-there b o h (ap begins_atom (ap (λ b. atom_word (begun_by b)) eb ∙ word-told u w) ∙ w)
 
     -- the word by the kind that its first letter tells
     pub if_word : {a : Span} {u : Name} {k : ℕ} → SpanAfter t r a → u ≡ name_in t a → k ≡ begun_by (get_or u 0 0) → atom_word k ≡ name_in t a
@@ -331,11 +341,11 @@ module _ (t w : List ℕ) (c : Counts.Names) (r i n l : ℕ) (ready : AreaFits w
         unfolding AtomTried
         if-row = subst (AtomTried Γ vs (atom_of u x z)) e h
 
-        pub if_ok : AtomOk s.kind s.left s.right
+        pub if_ok : AtomOk (kind_number s.kind) s.left s.right
         if_ok = if-row.1.ok
 
         pub if-done :
-            {f v : List ℕ} → f ≡ put_atom w n s.kind s.left s.right → v ≡ put_row f i (one_row 15 0 n l) →
+            {f v : List ℕ} → f ≡ put_atom w n (kind_number s.kind) s.left s.right → v ≡ put_row f i (one_row 15 0 n l) →
             SideTried If t w c r i n l v (Ok (n + 1))
         unfolding SideTried
         if-done k m = (

@@ -5,30 +5,24 @@ use Rattle.rules.specs.Scope.{atom_operands}
 use Rattle.read_words.specs.Words.{packed}
 use Rattle.read_grammar.specs.Rows as Rows
 use Rattle.read_atoms.specs.Atoms as Atoms
-use Rattle.read_atoms.proofs.Atoms.{no_kind}
 use Rattle.read_atoms.proofs.row_of.Goals as goal
 
-pub returns-in-1 : goal.returns-in-1
+pub returns-in-Read : goal.returns-in-Read
 unfolding Atoms.opened Base.opened Text.opened Rows.opened atom_operands packed
-returns-in-1 c = c.columns.ensures ∙ sym (rw c.in-1.is)
+returns-in-Read c = c.columns.ensures ∙ sym (rw c.in-Read.is)
 
-pub returns-in-2 : goal.returns-in-2
+pub returns-in-Acc : goal.returns-in-Acc
 unfolding Atoms.opened Base.opened Text.opened Rows.opened atom_operands packed
-returns-in-2 c = c.columns-in-2.ensures ∙ sym (rw c.in-2.is)
+returns-in-Acc c = c.columns-in-Acc.ensures ∙ sym (rw c.in-Acc.is)
 
-pub returns-in-3 : goal.returns-in-3
+pub returns-in-Chain : goal.returns-in-Chain
 unfolding Atoms.opened Base.opened Text.opened Rows.opened atom_operands packed
-returns-in-3 c = c.columns-in-3.ensures ∙ sym (rw c.in-3.is)
+returns-in-Chain c = c.columns-in-Chain.ensures ∙ sym (rw c.in-Chain.is)
 
-pub returns-in-4 : goal.returns-in-4
+pub returns-in-Eq : goal.returns-in-Eq
 unfolding Atoms.opened Base.opened Text.opened Rows.opened atom_operands packed
-returns-in-4 c = c.columns-in-4.ensures ∙ sym (rw c.in-4.is)
+returns-in-Eq c = c.columns-in-Eq.ensures ∙ sym (rw c.in-Eq.is)
 
-pub returns-in-5 : goal.returns-in-5
+pub returns-in-Ne : goal.returns-in-Ne
 unfolding Atoms.opened Base.opened Text.opened Rows.opened atom_operands packed
-returns-in-5 c = c.columns-in-5.ensures ∙ sym (rw c.in-5.is)
-
-pub returns-in_default : goal.returns-in_default
-unfolding Atoms.opened Base.opened Text.opened Rows.opened atom_operands packed
-returns-in_default c =
-    c.columns-in_default.ensures ∙ sym (rw (no_kind _ c.in_default.in_default-own.rest.0.0.0.0.1 c.in_default.in_default-own.rest.0.0.0.1 c.in_default.in_default-own.rest.0.0.1 c.in_default.in_default-own.rest.0.1 c.in_default.in_default-own.rest.1))
+returns-in-Ne c = c.columns-in-Ne.ensures ∙ sym (rw c.in-Ne.is)

@@ -6,7 +6,7 @@ use Rattle.read_declarations.proofs.declare_class.Goals as goal
 
 pub add_class-requires : goal.add_class-requires
 add_class-requires c =
-    (c.requires.0.whole, c.requires.2, span_fits c.args.text.now c.span_after-name.result c.requires.0.text c.span_after-name.ensures.high (ap is_name c.span_after-name.ensures.name ∙ c.requires.3))
+    (c.requires.2, span_fits c.args.text.now c.span_after-name.result c.requires.0.text c.span_after-name.ensures.high (ap is_name c.span_after-name.ensures.name ∙ c.requires.3))
 
 pub returns : goal.returns
 returns c =

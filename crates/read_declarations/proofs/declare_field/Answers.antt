@@ -10,7 +10,7 @@ add_field-requires c =
     let n = second c.span_after-gives.ensures c.span_after-name.ensures in
     let f = span_fits c.args.text.now c.span_after-gives.result c.requires.0.text c.span_after-gives.ensures.high (ap is_name c.span_after-gives.ensures.name ∙ c.requires.3) in
     let g = span_fits c.args.text.now c.span_after-name.result c.requires.0.text c.span_after-name.ensures.high (ap is_name n ∙ c.requires.4) in
-    (c.requires.0.whole, c.requires.2, field_fits (omega (arith, c.owner.ensures, c.requires.0.fits.classes)) g f)
+    (c.requires.2, field_fits (omega (arith, c.owner.ensures, c.requires.0.fits.classes)) g f)
 
 pub returns : goal.returns
 returns c =

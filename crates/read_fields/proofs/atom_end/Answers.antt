@@ -3,9 +3,6 @@ use Rattle.read_fields.specs.Spans.{AtomHead}
 use Rattle.read_fields.proofs.Heads.{atom-by}
 use Rattle.read_fields.proofs.atom_end.Goals as goal
 
-pub operands_end-requires : goal.operands_end-requires
-operands_end-requires c = (subst (AtomHead c.args.t.now c.args.r) c.in_ok-h.was c.atom_head.ensures).1.1.high
-
 pub returns : goal.returns
 returns c =
     let x = subst (AtomHead c.args.t.now c.args.r) c.in_ok-h.was c.atom_head.ensures in

@@ -1,10 +1,6 @@
-use Rattle.std.proofs.Common.{rules}
 use native.Mathlib.Omega.{arith}
 use Rattle.read_fields.proofs.Heads.{packs}
 use Rattle.read_fields.proofs.is_spelled.Goals as goal
-
-pub returns-then-t-e : goal.returns-then-t-e
-returns-then-t-e c s a n m = search rules
 
 pub returns : goal.returns
 returns c s a n m =

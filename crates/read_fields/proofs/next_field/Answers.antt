@@ -1,5 +1,5 @@
 use native.Mathlib.Omega.{arith}
-use Rattle.read_fields.proofs.Cuts.{byte-in, no_more, some_more, fields-from}
+use Rattle.read_fields.proofs.Cuts.{no_more, some_more, fields-from}
 use Prim.Native.Nat.{◌+◌}
 use mathlib.Core.Path.{◌∙◌, sym}
 use Rattle.read_fields.proofs.next_field.Goals as goal
@@ -8,10 +8,6 @@ pub returns-then-byte_at-ne-TAB : goal.returns-then-byte_at-ne-TAB
 returns-then-byte_at-ne-TAB c =
     let n = no_more c.args.t.now c.args.r (λ e. c.if-byte_at-ne-TAB.true (c.byte_at.ensures ∙ e)) in
     record { low = omega arith; high = c.requires; none = λ e. n; some = λ l. absurd (omega arith) }
-
-pub find-requires : goal.find-requires
-find-requires c =
-    omega (arith, byte-in c.args.t.now c.args.r 9 (omega arith) (sym c.byte_at.ensures ∙ c.if-byte_at-ne-TAB.false))
 
 pub returns : goal.returns
 returns c =

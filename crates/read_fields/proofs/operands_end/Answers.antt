@@ -1,10 +1,7 @@
-use Rattle.read_fields.proofs.Spans.{walk_start, walk-done, walk-bad, walk-on}
+use Rattle.read_fields.proofs.Spans.{walk-done, walk-bad, walk-on}
 use mathlib.Core.Path.{sym, subst}
 use Rattle.read_fields.specs.Spans.{OperandsRead}
 use Rattle.read_fields.proofs.operands_end.Goals as goal
-
-pub loop-left-init : goal.loop-left-init
-loop-left-init c = (c.requires, λ os e. walk_start c.requires e)
 
 pub returns-in_err-r : goal.returns-in_err-r
 returns-in_err-r c = λ os e. subst (OperandsRead os c.args.t.now c.args.from) (sym c.from_residual.ensures) (walk-bad (c.loop-left.invariant.1 os e) c.loop-left-test.true c.in_err-r.ensures)

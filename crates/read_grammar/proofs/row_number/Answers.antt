@@ -1,107 +1,103 @@
-use native.Mathlib.Omega.{arith}
 use Rattle.rules.specs.Base as Base
 use Rattle.rules.specs.Grammar as Grammar
 use Rattle.rules.specs.Places.{stage_number}
 use Rattle.read_words.specs.Words as Words
 use Rattle.read_grammar.specs.Rows as Rows
-use mathlib.Core.Path.{◌≡◌}
-use Rattle.read_grammar.proofs.Rows.{passed}
 use Rattle.read_grammar.proofs.row_number.Goals as goal
 
 -- `row_number` meets its contract, kind by kind. Assumes nothing.
-pub returns-in-1 : goal.returns-in-1
+pub returns-in-Class : goal.returns-in-Class
 unfolding Rows.opened Words.opened Grammar.opened Base.opened stage_number
-returns-in-1 c = rw c.in-1.is
+returns-in-Class c = rw c.in-Class.is
 
-pub returns-in-2 : goal.returns-in-2
+pub returns-in-Field : goal.returns-in-Field
 unfolding Rows.opened Words.opened Grammar.opened Base.opened stage_number
-returns-in-2 c = rw c.in-2.is
+returns-in-Field c = rw c.in-Field.is
 
-pub returns-in-3 : goal.returns-in-3
+pub returns-in-Method : goal.returns-in-Method
 unfolding Rows.opened Words.opened Grammar.opened Base.opened stage_number
-returns-in-3 c = rw c.in-3.is
+returns-in-Method c = rw c.in-Method.is
 
-pub returns-in-4 : goal.returns-in-4
+pub returns-in-Requires : goal.returns-in-Requires
 unfolding Rows.opened Words.opened Grammar.opened Base.opened stage_number
-returns-in-4 c = rw c.in-4.is
+returns-in-Requires c = rw c.in-Requires.is
 
-pub returns-in-5 : goal.returns-in-5
+pub returns-in-Ensures : goal.returns-in-Ensures
 unfolding Rows.opened Words.opened Grammar.opened Base.opened stage_number
-returns-in-5 c = rw c.in-5.is
+returns-in-Ensures c = rw c.in-Ensures.is
 
-pub returns-in-6 : goal.returns-in-6
+pub returns-in-Main : goal.returns-in-Main
 unfolding Rows.opened Words.opened Grammar.opened Base.opened stage_number
-returns-in-6 c = rw c.in-6.is
+returns-in-Main c = rw c.in-Main.is
 
-pub returns-in-7 : goal.returns-in-7
+pub returns-in-Var : goal.returns-in-Var
 unfolding Rows.opened Words.opened Grammar.opened Base.opened stage_number
-returns-in-7 c = rw c.in-7.is
+returns-in-Var c = rw c.in-Var.is
 
-pub returns-in-8 : goal.returns-in-8
+pub returns-in-Set : goal.returns-in-Set
 unfolding Rows.opened Words.opened Grammar.opened Base.opened stage_number
-returns-in-8 c = rw c.in-8.is
+returns-in-Set c = rw c.in-Set.is
 
-pub returns-in-9 : goal.returns-in-9
+pub returns-in-Let : goal.returns-in-Let
 unfolding Rows.opened Words.opened Grammar.opened Base.opened stage_number
-returns-in-9 c = rw c.in-9.is
+returns-in-Let c = rw c.in-Let.is
 
-pub returns-in-10 : goal.returns-in-10
+pub returns-in-New : goal.returns-in-New
 unfolding Rows.opened Words.opened Grammar.opened Base.opened stage_number
-returns-in-10 c = rw c.in-10.is
+returns-in-New c = rw c.in-New.is
 
-pub returns-in-11 : goal.returns-in-11
+pub returns-in-Call : goal.returns-in-Call
 unfolding Rows.opened Words.opened Grammar.opened Base.opened stage_number
-returns-in-11 c = rw c.in-11.is
+returns-in-Call c = rw c.in-Call.is
 
-pub returns-in-12 : goal.returns-in-12
+pub returns-in-Return : goal.returns-in-Return
 unfolding Rows.opened Words.opened Grammar.opened Base.opened stage_number
-returns-in-12 c = rw c.in-12.is
+returns-in-Return c = rw c.in-Return.is
 
-pub returns-in-13 : goal.returns-in-13
+pub returns-in-Assert : goal.returns-in-Assert
 unfolding Rows.opened Words.opened Grammar.opened Base.opened stage_number
-returns-in-13 c = rw c.in-13.is
+returns-in-Assert c = rw c.in-Assert.is
 
-pub returns-in-14 : goal.returns-in-14
+pub returns-in-Release : goal.returns-in-Release
 unfolding Rows.opened Words.opened Grammar.opened Base.opened stage_number
-returns-in-14 c = rw c.in-14.is
+returns-in-Release c = rw c.in-Release.is
 
-pub returns-in-15 : goal.returns-in-15
+pub returns-in-If : goal.returns-in-If
 unfolding Rows.opened Words.opened Grammar.opened Base.opened stage_number
-returns-in-15 c = rw c.in-15.is
+returns-in-If c = rw c.in-If.is
 
-pub returns-in-16 : goal.returns-in-16
+pub returns-in-Else : goal.returns-in-Else
 unfolding Rows.opened Words.opened Grammar.opened Base.opened stage_number
-returns-in-16 c = rw c.in-16.is
+returns-in-Else c = rw c.in-Else.is
 
-pub returns-in-17 : goal.returns-in-17
+pub returns-in-Join : goal.returns-in-Join
 unfolding Rows.opened Words.opened Grammar.opened Base.opened stage_number
-returns-in-17 c = rw c.in-17.is
+returns-in-Join c = rw c.in-Join.is
 
-pub returns-in-18 : goal.returns-in-18
+pub returns-in-End : goal.returns-in-End
 unfolding Rows.opened Words.opened Grammar.opened Base.opened stage_number
-returns-in-18 c = rw c.in-18.is
+returns-in-End c = rw c.in-End.is
 
-pub returns-in-19 : goal.returns-in-19
+pub returns-in-Add : goal.returns-in-Add
 unfolding Rows.opened Words.opened Grammar.opened Base.opened stage_number
-returns-in-19 c = rw c.in-19.is
+returns-in-Add c = rw c.in-Add.is
 
-pub returns-in-20 : goal.returns-in-20
+pub returns-in-Sub : goal.returns-in-Sub
 unfolding Rows.opened Words.opened Grammar.opened Base.opened stage_number
-returns-in-20 c = rw c.in-20.is
+returns-in-Sub c = rw c.in-Sub.is
 
-pub returns-in-21 : goal.returns-in-21
+pub returns-in-Loop : goal.returns-in-Loop
 unfolding Rows.opened Words.opened Grammar.opened Base.opened stage_number
-returns-in-21 c = rw c.in-21.is
+returns-in-Loop c = rw c.in-Loop.is
 
-pub returns-in-22 : goal.returns-in-22
+pub returns-in-Again : goal.returns-in-Again
 unfolding Rows.opened Words.opened Grammar.opened Base.opened stage_number
-returns-in-22 c = rw c.in-22.is
+returns-in-Again c = rw c.in-Again.is
 
-pub returns-in-23 : goal.returns-in-23
+pub returns-in-Open : goal.returns-in-Open
 unfolding Rows.opened Words.opened Grammar.opened Base.opened stage_number
-returns-in-23 c = rw c.in-23.is
+returns-in-Open c = rw c.in-Open.is
 
-pub returns-in_default : goal.returns-in_default
+pub returns-in-Shut : goal.returns-in-Shut
 unfolding Rows.opened Words.opened Grammar.opened Base.opened stage_number
-returns-in_default c =
-    let e : c.args.kind ≡ 24 = omega (arith, passed 23 c.args.kind c.requires.0 c.in_default.in_default-own.rest) in rw e
+returns-in-Shut c = rw c.in-Shut.is

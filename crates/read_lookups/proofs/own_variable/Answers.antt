@@ -5,7 +5,7 @@ use native.Mathlib.Omega.{arith}
 use Rattle.read_lookups.proofs.own_variable.Goals as goal
 
 pub returns-then-i-n : goal.returns-then-i-n
-returns-then-i-n c = own-found _ _ _ _ _ _ _ c.find-i.ensures.0 c.if-i-n.true c.requires.1
+returns-then-i-n c = own-found _ _ _ _ _ _ _ c.find-i.ensures.0 c.if-i-n.true c.requires
 
 pub returns-then-not-res : goal.returns-then-not-res
 returns-then-not-res c = own-none _ _ _ _ _ _ (omega (arith, c.find-i.ensures.0, c.if-i-n.false)) (c.if-not-res.true)

@@ -2,14 +2,10 @@ use Rattle.read_lookups.proofs.LookUps.{looked-this, looked-on}
 use Rattle.read_lookups.specs.LookUps.{own_in}
 use Rattle.read_scopes.specs.Meanings.{variables_in, block_in, own_variables}
 use Rattle.rules.specs.Base.{bytes}
-use borrow.Author.Tests.{not-true, not-false}
+use borrow.Author.Tests.{not-false}
 use mathlib.Core.Path.{sym, ◌∙◌}
 use native.Mathlib.Numerals.{add-one}
 use Rattle.read_lookups.proofs.variable.Goals as goal
-
-pub returns-then-not-c : goal.returns-then-not-c
-unfolding variables_in block_in own_variables own_in
-returns-then-not-c c = rw (not-true c.args.c.method c.if-not-c.true) c.own_variable.ensures
 
 pub returns-then-same : goal.returns-then-same
 unfolding variables_in block_in own_variables bytes

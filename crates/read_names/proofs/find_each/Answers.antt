@@ -1,10 +1,7 @@
-use Rattle.read_names.proofs.Searches.{begin, here, on, over}
+use Rattle.read_names.proofs.Searches.{here, on, over}
 use mathlib.Core.Path.{◌≡◌, sym, ◌∙◌}
 use native.Mathlib.Omega.{arith}
 use Rattle.read_names.proofs.find_each.Goals as goal
-
-pub loop-i-init : goal.loop-i-init
-loop-i-init c = begin _ _ _ _
 
 pub returns-then-is_row : goal.returns-then-is_row
 returns-then-is_row c = (here _ _ _ _ _ c.loop-i.invariant c.loop-i-test.true (sym c.is_row.ensures ∙ c.if-is_row.true), omega arith)

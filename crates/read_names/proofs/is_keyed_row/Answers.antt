@@ -4,11 +4,7 @@ use Rattle.rules.specs.Base.{eq_name}
 use mathlib.Core.Path.{sym, ap, ◌∙◌}
 use Rattle.read_names.proofs.is_keyed_row.Goals as goal
 
-pub returns-then-not-is_owned : goal.returns-then-not-is_owned
-unfolding is_entry entry_at
-returns-then-not-is_owned c = rw (sym c.is_owned.ensures ∙ c.if-not-is_owned.true)
-
 pub returns : goal.returns
 unfolding is_entry entry_at
 returns c =
-    rw (sym c.is_owned.ensures ∙ c.if-not-is_owned.false) (c.same.ensures ∙ (ap (λ y. eq_name y c.args.x.now) (c.name_in.ensures ∙ ap (name_in c.args.text.now) c.written_at-s.ensures.0) ∙ sym (same_name c.args.text.now c.args.work.now c.args.i c.args.x.now c.requires.2 c.requires.3)))
+    rw (sym c.is_owned.ensures ∙ c.if-not-is_owned.false) (c.same.ensures ∙ (ap (λ y. eq_name y c.args.x.now) (c.name_in.ensures ∙ ap (name_in c.args.text.now) c.written_at-s.ensures.0) ∙ sym (same_name c.args.text.now c.args.work.now c.args.i c.args.x.now c.requires.1 c.requires.2)))

@@ -20,12 +20,8 @@ returns-then-byte_at-ne-LINE_FEED c =
       record { size = refl; noted = tt },
     )
 
-pub placed_line-requires : goal.placed_line-requires
-placed_line-requires c =
-    let f = c.in-Some.ensures in (kind-in c.first_word-w.ensures f, c.requires.1)
-
-pub returns-in_default : goal.returns-in_default
-returns-in_default c = (refuses-line c.refused_line.ensures, record { size = refl; noted = tt })
+pub numbered-requires : goal.numbered-requires
+numbered-requires c = kind-in c.first_word-w.ensures c.in-Some.ensures
 
 pub returns : goal.returns
 returns c =
@@ -34,10 +30,10 @@ returns c =
     let d = formed-end c.first_word-w.ensures f in
     let k = has-kind c.first_word-w.ensures f in
     let x = formed-first c.first_word-w.ensures f in (
-      places-line d g c.first_word-w.result.kind x.kind k c.placed_line.ensures,
+      places-line d g _ (c.numbered.ensures ∙ x.kind) (λ z. k (sym c.numbered.ensures ∙ z)) c.placed_line.ensures,
       record {
         size = ap length c.put_line.ensures ∙ line-length c.args.work.now
             c.args.n c.first_word-w.result;
-        noted = when-at (λ i. Noted c.args.t.now c.args.work.now c.args.at i c.args.n _) _ c.placed_line.result (line-noted x k d.low g c.requires.2 c.requires.3 (omega arith) c.put_line.ensures) c.placed_line.ensures.1;
+        noted = when-at (λ i. Noted c.args.t.now c.args.work.now c.args.at i c.args.n _) _ c.placed_line.result (line-noted x k d.low g c.requires.2 c.told-work (omega arith) c.put_line.ensures) c.placed_line.ensures.1;
       },
     )

@@ -12,6 +12,3 @@ returns-then-begins_number c =
 pub path_end-requires : goal.path_end-requires
 path_end-requires c =
     (c.requires, c.find-d.ensures, numeral-at c.args.l.now c.args.at ∙ rw (← c.byte_at.ensures) (sym c.begins_number.ensures ∙ c.if-begins_number.false))
-
-pub returns : goal.returns
-returns c = c.path_end.ensures

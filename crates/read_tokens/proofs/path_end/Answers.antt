@@ -1,4 +1,4 @@
-use Rattle.read_bytes.proofs.Fields.{goes-beyond, field-passes, field-fails}
+use Rattle.read_bytes.proofs.Fields.{field-passes, field-fails}
 use Rattle.read_tokens.proofs.Exprs.{ended_at, no-begin-at, whole-at, sign_at, path-at, path-ends}
 use Rattle.rules.specs.Text.{is_expr}
 use mathlib.Core.Path.{sym, ◌∙◌}
@@ -17,23 +17,11 @@ returns-then-ends_field c =
     c.args.d c.requires.0 c.requires.1.is c.requires.2 (sym c.begins_name.ensures ∙ c.if-not-begins_name.false) t) (omega
     (arith, c.requires.1.is, ended_at c.args.l.now c.args.at c.args.d c.requires.0 c.requires.1.is t))
 
-pub bounds-l-d : goal.bounds-l-d
-bounds-l-d c =
-    goes-beyond c.args.l.now c.args.d (sym c.ends_field.ensures ∙ c.if-ends_field.false)
-
 pub returns-then-l-d-ne-FULL_STOP : goal.returns-then-l-d-ne-FULL_STOP
 returns-then-l-d-ne-FULL_STOP c =
     field-fails is_expr c.args.l.now c.args.at (sign_at c.args.l.now c.args.at c.args.d
     c.requires.0 c.requires.1.is c.requires.2 (sym c.begins_name.ensures ∙ c.if-not-begins_name.false) (sym c.ends_field.ensures ∙
     c.if-ends_field.false) c.if-l-d-ne-FULL_STOP.true)
-
-pub overflow_add-f : goal.overflow_add-f
-overflow_add-f c =
-    omega (arith, goes-beyond c.args.l.now c.args.d (sym c.ends_field.ensures ∙ c.if-ends_field.false))
-
-pub find-e-requires : goal.find-e-requires
-find-e-requires c =
-    omega (arith, goes-beyond c.args.l.now c.args.d (sym c.ends_field.ensures ∙ c.if-ends_field.false))
 
 pub returns-then-is_name : goal.returns-then-is_name
 returns-then-is_name c =

@@ -9,7 +9,3 @@ returns-in-Null c = rw (c.in-Null.is, c.is_int_type.ensures) (null-agrees _ _)
 pub returns-in-Int : goal.returns-in-Int
 unfolding type_meant
 returns-in-Int c = rw (c.in-Int.is, c.is_int_type-in-Int.ensures) (int-agrees _ _)
-
-pub returns-in-Named : goal.returns-in-Named
-unfolding type_meant
-returns-in-Named c = rw c.in-Named.is c.agree_named.ensures

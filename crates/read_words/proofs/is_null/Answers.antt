@@ -1,16 +1,10 @@
-use Rattle.read_bytes.proofs.Search.{not_same}
 use Rattle.read_words.proofs.Words.{spelled}
 use Rattle.rules.specs.Base.{bytes}
-use lib.ListN.{length}
-use mathlib.Core.Path.{refl, sym, ap}
+use mathlib.Core.Path.{refl}
 use native.Mathlib.Omega.{arith}
 use Rattle.rules.specs.Base as Base
 use Rattle.read_words.specs.Words as Words
 use Rattle.read_words.proofs.is_null.Goals as goal
-
-pub returns-then-w-ne-NULL_BYTES : goal.returns-then-w-ne-NULL_BYTES
-unfolding Base.opened Words.opened
-returns-then-w-ne-NULL_BYTES c = sym (not_same (bytes "null") c.args.w.now (λ e. c.if-w-ne-NULL_BYTES.true (ap length (sym e))))
 
 pub returns : goal.returns
 unfolding Base.opened Words.opened

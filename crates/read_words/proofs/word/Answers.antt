@@ -1,8 +1,8 @@
 use Rattle.read_words.proofs.Words.{word-packed, no_word}
-use borrow.Author.Tests.{lt-ltb, eq-eqb}
-use lib.Dec.{eqb, ltb}
-use lib.ListN.{length, get_or}
-use mathlib.Core.Path.{refl, sym, ◌∙◌}
+use borrow.Author.Tests.{lt-ltb}
+use lib.Dec.{ltb}
+use lib.ListN.{length}
+use mathlib.Core.Path.{refl, sym}
 use native.Mathlib.Omega.{arith}
 use Rattle.rules.specs.Base as Base
 use Rattle.read_words.specs.Words as Words
@@ -12,10 +12,6 @@ use Rattle.read_words.proofs.word.Goals as goal
 pub returns-then-w-gt-BYTES : goal.returns-then-w-gt-BYTES
 unfolding Words.opened Base.opened
 returns-then-w-gt-BYTES c = sym (no_word (λ x. ltb 8 (length x)) c.args.w.now (lt-ltb 8 (length c.args.w.now) c.if-w-gt-BYTES.true) refl)
-
-pub returns-then-byte_at-eq0 : goal.returns-then-byte_at-eq0
-unfolding Words.opened Base.opened
-returns-then-byte_at-eq0 c = sym (no_word (λ x. eqb (get_or x 0 0) 0) c.args.w.now (eq-eqb (get_or c.args.w.now 0 0) 0 (sym c.byte_at.ensures ∙ c.if-byte_at-eq0.true)) refl)
 
 pub returns : goal.returns
 returns c = rw (c.numbered.ensures, c.pack.ensures) (sym (word-packed c.args.w.now (λ i. omega (arith, c.type_inv.w i)) (omega (arith, c.if-byte_at-eq0.false, c.byte_at.ensures))))

@@ -9,15 +9,15 @@ use Rattle.reader.proofs.read.Goals as goal
 -- `reader::read` meets its contract. Assumes nothing.
 pub returns-then-text-gt-TEXT_BYTES : goal.returns-then-text-gt-TEXT_BYTES
 unfolding ReadingIs refusal_of
-returns-then-text-gt-TEXT_BYTES c = (too_long _ c.if-text-gt-TEXT_BYTES.true, c.requires)
+returns-then-text-gt-TEXT_BYTES c = too_long _ c.if-text-gt-TEXT_BYTES.true
 
 pub resolve-requires : goal.resolve-requires
 resolve-requires c =
-    (c.if-text-gt-TEXT_BYTES.false, c.scan.ensures.2 ∙ c.requires, scan-taken _ c.if-text-gt-TEXT_BYTES.false _ (ap verdict_of (sym c.in_ok-n.was) ∙ c.scan.ensures.0), subst (TableOf _ _) c.in_ok-n.was c.scan.ensures.1)
+    (c.if-text-gt-TEXT_BYTES.false, scan-taken _ c.if-text-gt-TEXT_BYTES.false _ (ap verdict_of (sym c.in_ok-n.was) ∙ c.scan.ensures.0), subst (TableOf _ _) c.in_ok-n.was c.scan.ensures.1)
 
 pub returns-in_err-n : goal.returns-in_err-n
 unfolding ReadingIs
 returns-in_err-n c =
     let p = err_from_is_err_and c.from_residual.result c.from_residual.ensures.1 in
     rw (p.1, p.2.1)
-    (scan-refused _ c.if-text-gt-TEXT_BYTES.false p.2.0 (ap verdict_of (sym c.in_err-n.was) ∙ c.scan.ensures.0), c.scan.ensures.2 ∙ c.requires)
+    (scan-refused _ c.if-text-gt-TEXT_BYTES.false p.2.0 (ap verdict_of (sym c.in_err-n.was) ∙ c.scan.ensures.0))

@@ -1,15 +1,19 @@
-use mathlib.Core.Path.{sym, ◌∙◌}
-use borrow.Author.Tests.{lt-ltb, le-ltb}
-use Rattle.tables.specs.Decode.{is_permission}
+use mathlib.Core.Path.{◌≡◌, sym, ◌∙◌}
+use mathlib.Core.Bool.{true, false}
+use native.Mathlib.Omega.{arith}
+use Rattle.tables.specs.Decode.{is_permission, atom_kind_at}
+use Rattle.tables.specs.Kinds.{kind_of}
 use Rattle.resolve_framing.proofs.Framing.{permission-framed, sides-framed}
 use Rattle.resolve_framing.proofs.framed_atom.Goals as goal
 
-pub returns-then-atom_kind-lt-EQ : goal.returns-then-atom_kind-lt-EQ
-unfolding is_permission
-returns-then-atom_kind-lt-EQ c = sym (permission-framed _ _ _ (rw (← c.atom_kind.ensures.0) (lt-ltb _ _ c.if-atom_kind-lt-EQ.true)))
+pub returns-in-Read : goal.returns-in-Read
+unfolding is_permission kind_of
+returns-in-Read c =
+    let h : is_permission (atom_kind_at c.args.work.now c.args.a) ≡ true = grind arith in
+    sym (permission-framed _ _ _ h)
 
-pub returns : goal.returns
-unfolding is_permission
-returns c =
-    c.framed_sides.ensures
-    ∙ sym (sides-framed _ _ _ (rw (← c.atom_kind.ensures.0) (le-ltb _ _ c.if-atom_kind-lt-EQ.false)))
+pub returns-in-Eq : goal.returns-in-Eq
+unfolding is_permission kind_of
+returns-in-Eq c =
+    let h : is_permission (atom_kind_at c.args.work.now c.args.a) ≡ false = grind arith in
+    c.framed_sides.ensures ∙ sym (sides-framed _ _ _ h)

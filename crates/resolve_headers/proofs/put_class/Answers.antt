@@ -23,7 +23,7 @@ returns-then-not-is_new c =
 pub put_class_row-requires : goal.put_class_row-requires
 unfolding kind_number
 put_class_row-requires c =
-    (c.requires.0.whole, omega (arith, ((room_as Class refl c.requires.3).class refl).0, c.requires.0.names.classes))
+    omega (arith, ((room_as Class refl c.requires.3).class refl).0, c.requires.0.names.classes)
 
 pub returns : goal.returns
 unfolding scope_in kind_number is_kind is_statement names_after

@@ -38,7 +38,7 @@ put_class_field-requires c =
     let name : c.field_number-f.result ≡ field_number Γ (get_or ws 1 []) =
     c.field_number-f.ensures.0 ∙ ap (field_number Γ) (c.name_in.ensures ∙ second c.span_after-gives.ensures c.span_after-name.ensures) in
     let b = field_fits c.args.text.now c.args.work.now c.args.p ws (c.args.p.above.classes - 1) c.requires.0 room c.requires.4 last in
-    ((c.requires.0.whole, b.0), (omega (arith, name, b.1.0), b.1.1))
+    (b.0, (omega (arith, name, b.1.0), b.1.1))
 
 pub returns : goal.returns
 unfolding names_after is_kind is_statement kind_number

@@ -1,7 +1,7 @@
 use mathlib.Core.Path.{◌≡◌, refl, ap, ◌∙◌}
 use Prim.Native.Nat.{suc, ◌-◌, ◌<◌}
 use native.Mathlib.Omega.{arith}
-use lib.ListN.{length, drop}
+use lib.ListN.{drop}
 use Rattle.rules.specs.Limits.{most_methods}
 use Rattle.rules.specs.Text.{is_name}
 use Rattle.rules.specs.Grammar.{Method, kind_number, is_statement, is_kind}
@@ -9,7 +9,6 @@ use Rattle.read_fields.specs.Cuts.{more}
 use Rattle.read_scopes.specs.Meanings.{put_block}
 use Rattle.read_declarations.proofs.Lines.{span_fits, method-names}
 use Rattle.write_rows.specs.Puts.{put_method}
-use Rattle.write_rows.proofs.Methods.{method-length}
 use Rattle.resolve_pass.specs.Passes.{names_after}
 use Rattle.resolve_headers.specs.Headers.{moved}
 use Rattle.resolve_headers.proofs.Lines.{parameter-name, method-line, at-end, room_as}
@@ -35,7 +34,7 @@ returns-then-not-may_add_method c =
 pub put_method_row-requires : goal.put_method_row-requires
 unfolding kind_number
 put_method_row-requires c =
-    (c.requires.0.whole, (omega (arith, c.after.ensures, ((room_as Method refl c.requires.3).method refl).1.0, c.requires.0.names.methods), omega (arith, c.requires.4.rows)))
+    (omega (arith, c.after.ensures, ((room_as Method refl c.requires.3).method refl).1.0, c.requires.0.names.methods), omega (arith, c.requires.4.rows))
 
 pub put_block-requires : goal.put_block-requires
 unfolding kind_number
@@ -44,7 +43,6 @@ put_block-requires c =
     in
     let s = span_fits c.args.text.now c.span_after-parameter.result c.requires.0.text c.span_after-parameter.ensures.high (ap is_name (c.span_after-parameter.ensures.name ∙ c.method_row-m.ensures.parameter) ∙ parameter-name (more (drop
     c.args.r c.args.text.now)) c.requires.2) in (
-      ap length c.put_method_row.ensures ∙ (method-length c.args.work.now c.after.result c.args.p.rows c.requires.0.whole few ∙ c.requires.0.whole),
       c.name_at-class.ensures.1,
       c.method_row-m.ensures.fits,
       s,

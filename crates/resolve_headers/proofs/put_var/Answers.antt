@@ -25,7 +25,7 @@ put_local-grown-requires c =
     let m = var-names (more (drop c.args.r c.args.text.now)) c.requires.2 in
     let g = span_fits c.args.text.now c.span_after-gives.result c.requires.0.text c.span_after-gives.ensures.high (ap is_name c.span_after-gives.ensures.name ∙ m.0) in
     let s = span_fits c.args.text.now c.span_after-name.result c.requires.0.text c.span_after-name.ensures.high (ap is_name n ∙ m.1) in
-    (c.requires.0.whole, (room_as Var refl c.requires.3).local refl, s, g)
+    ((room_as Var refl c.requires.3).local refl, s, g)
 
 pub returns : goal.returns
 unfolding names_after above_after is_kind is_statement kind_number

@@ -5,7 +5,7 @@ use native.Mathlib.Numerals.{add-one}
 use Rattle.star_reader.specs.StarRead.{headers_in}
 use Rattle.star_reader.proofs.Headers.{one-header, no_header}
 use Rattle.star_reader.proofs.last_method.Goals as goal
-use Rattle.star_reader.proofs.last_method.Goals.{then-w-eq-METHOD, else-w-eq-METHOD}
+use Rattle.star_reader.proofs.last_method.Goals.{then-w, else-w}
 
 pub loop-i-init : goal.loop-i-init
 unfolding headers_in
@@ -14,14 +14,14 @@ loop-i-init c = (refl, refl, omega arith)
 pub loop-i-preserved : goal.loop-i-preserved
 loop-i-preserved c =
     let e = ap (λ r. r.kind) c.line_word-w.ensures in
-    elim c.if-w-eq-METHOD.branch [
-      | then-w-eq-METHOD w ↦ (
-        w.next-is ∙ one-header c.args.work.now c.loop-i.i _ c.loop-i.invariant.0 (sym e ∙ w.if-w-eq-METHOD.true),
+    elim c.if-w.branch [
+      | then-w w ↦ (
+        w.next-is ∙ one-header c.args.work.now c.loop-i.i _ c.loop-i.invariant.0 (sym e ∙ w.if-w.true),
         w.last-is ∙ (sym (ap pred (add-one _)) ∙ ap pred (sym w.next-is)),
         omega (arith, w.next-is, c.loop-i.invariant.2),
       )
-      | else-w-eq-METHOD w ↦ (
-        w.next-is ∙ no_header c.args.work.now c.loop-i.i _ c.loop-i.invariant.0 (λ z. w.if-w-eq-METHOD.false (e ∙ z)),
+      | else-w w ↦ (
+        w.next-is ∙ no_header c.args.work.now c.loop-i.i _ c.loop-i.invariant.0 (λ z. w.if-w.false (e ∙ z)),
         w.last-is ∙ (c.loop-i.invariant.1 ∙ ap pred (sym w.next-is)),
         omega (arith, w.next-is, c.loop-i.invariant.2),
       )

@@ -6,8 +6,8 @@ use Rattle.star_reader.proofs.read.Goals as goal
 -- `star_reader::read` meets its contract. Assumes nothing.
 pub returns-then-text-gt-TEXT_BYTES : goal.returns-then-text-gt-TEXT_BYTES
 unfolding StarredIs refusal_of
-returns-then-text-gt-TEXT_BYTES c = (too_long _ c.if-text-gt-TEXT_BYTES.true, c.requires)
+returns-then-text-gt-TEXT_BYTES c = too_long _ c.if-text-gt-TEXT_BYTES.true
 
 pub returns : goal.returns
 returns c =
-    (c.read_copy.ensures.0 _ (copy_of c.if-text-gt-TEXT_BYTES.false c.unstar-s.ensures.0 c.unstar-s.ensures.1), c.read_copy.ensures.1)
+    c.read_copy.ensures _ (copy_of c.if-text-gt-TEXT_BYTES.false c.unstar-s.ensures c.unstar-s.array_long)

@@ -11,7 +11,7 @@ overflow_add-method c =
 pub owner_at-class-requires : goal.owner_at-class-requires
 owner_at-class-requires c =
     let x = method-here c.requires c.last_method-method.ensures in
-    (x.size, omega (arith, x.within, x.methods))
+    omega (arith, x.within, x.methods)
 
 pub parameter_class-parameter-requires : goal.parameter_class-parameter-requires
 parameter_class-parameter-requires c = method-here c.requires c.last_method-method.ensures

@@ -1,7 +1,6 @@
 use Rattle.std.proofs.lemmas.Result.{err_from_is_err_and}
-use mathlib.Core.Path.{◌∙◌}
 use native.Mathlib.Omega.{arith}
-use Rattle.write_formulas.proofs.Claims.{header-bytes, ensures-put, follows-line, tried-done, header-bad, header-done}
+use Rattle.write_formulas.proofs.Claims.{header-room, ensures-put, follows-line, tried-done, header-bad, header-done}
 use Rattle.write_formulas.proofs.put_ensures.Goals as goal
 
 -- `write_formulas::put_ensures` meets its contract. Assumes nothing.
@@ -10,14 +9,11 @@ put_formula-requires c = (c.requires.0, follows-line (omega arith) c.requires.1)
 
 pub overflow_sub-e : goal.overflow_sub-e
 overflow_sub-e c =
-    let y = tried-done _ _ _ _ _ _ _ c.put_formula.ensures _ c.in_ok-e.was in
-    omega (arith, y.1.count)
+    (header-room c.requires.0 c.requires.1 c.requires.2 _ c.put_formula.ensures c.in_ok-e.was).0
 
 pub put_ensures-requires : goal.put_ensures-requires
 put_ensures-requires c =
-    let y = tried-done _ _ _ _ _ _ _ c.put_formula.ensures _ c.in_ok-e.was in
-    let b = header-bytes c.requires.1 c.requires.2 y.1 in
-    ((y.1.size ∙ c.requires.0.whole, c.requires.2), (b.0, b.1))
+    (header-room c.requires.0 c.requires.1 c.requires.2 _ c.put_formula.ensures c.in_ok-e.was).1
 
 pub returns-in_err-e : goal.returns-in_err-e
 returns-in_err-e c =

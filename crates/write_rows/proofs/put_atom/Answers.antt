@@ -10,4 +10,4 @@ returns c =
     put_then _ _ _ _ _ (omega arith)
     (put_then _ _ _ _ _ (omega arith) c.put_four.ensures (c.put_word.ensures ∙ word_size _ _ _))
     (c.put_word-2.ensures ∙ word_size _ _ _)
-    ∙ rw (c.word_of-l.ensures, c.word_of-r.ensures, c.tag_of.ensures.0, c.tag_of-2.ensures.0)
+    ∙ rw (c.word_of-l.ensures, c.word_of-r.ensures, c.from.ensures, c.from-2.ensures, c.from-3.ensures, c.tag_of.ensures, c.tag_of-2.ensures)

@@ -1,7 +1,6 @@
 use Rattle.std.proofs.lemmas.Result.{err_from_is_err_and}
 use mathlib.Core.Path.{◌≡◌, sym, ap, subst, ◌∙◌}
 use mathlib.Core.Bool.{true}
-use native.Mathlib.Omega.{arith}
 use Rattle.rules.specs.Text.{is_expr}
 use Rattle.tables.specs.declared.Expr as Tables
 use Rattle.write_rows.specs.Puts.{put_row}
@@ -12,11 +11,7 @@ use Rattle.write_sides.proofs.put_let.Goals as goal
 
 pub look-l-requires : goal.look-l-requires
 look-l-requires c =
-    let e = c.name_in-2.ensures ∙ second c.span_after-a.ensures c.span_after-b.ensures in (
-      c.requires.0.whole,
-      c.requires.0.fits,
-      subst (λ z. is_expr z ≡ true) (sym e) (let-formed c.args.text.now c.args.work.now c.args.c c.args.r c.args.i c.args.n c.args.line c.requires.0 c.requires.2 c.requires.1),
-    )
+    let e = c.name_in-2.ensures ∙ second c.span_after-a.ensures c.span_after-b.ensures in (c.requires.0.fits, subst (λ z. is_expr z ≡ true) (sym e) (let-formed c.args.text.now c.args.work.now c.args.c c.args.r c.args.i c.args.n c.args.line c.requires.0 c.requires.2 c.requires.1))
 
 pub returns-in_err-judge_let : goal.returns-in_err-judge_let
 returns-in_err-judge_let c =
@@ -27,7 +22,7 @@ returns-in_err-judge_let c =
 pub put_atom-requires : goal.put_atom-requires
 put_atom-requires c =
     let o = let-atom c.args.text.now c.args.work.now c.args.c c.args.r c.args.i c.args.n c.args.line c.requires.0 c.requires.2 c.requires.1 c.span_after-a.ensures c.span_after-b.ensures c.name_in.ensures c.name_in-2.ensures c.variable-x.ensures c.look-l.ensures c.judge_let.ensures c.in_ok-judge_let.was in
-    ((c.requires.0.whole, c.requires.1.room), (omega arith, (side_bytes Tables.Expr.Null o.left, side_bytes _ o.right)))
+    (c.requires.1.room, (side_bytes Tables.Expr.Null o.left, side_bytes _ o.right))
 
 pub returns : goal.returns
 returns c =

@@ -1,28 +1,28 @@
-use borrow.Author.Tests.{ne_eqb}
+use Rattle.rules.proofs.KindNumbers.{other}
 use Rattle.read_grammar.specs.Coded.{branches_after}
 use Rattle.read_grammar.proofs.places.branches_after.Goals as goal
 
-pub returns-in-15 : goal.returns-in-15
+pub returns-in-If : goal.returns-in-If
 unfolding branches_after
-returns-in-15 c = rw c.in-15.is
+returns-in-If c = rw c.in-If.is
 
-pub returns-in-16 : goal.returns-in-16
+pub returns-in-Else : goal.returns-in-Else
 unfolding branches_after
-returns-in-16 c = rw c.in-16.is
+returns-in-Else c = rw c.in-Else.is
 
-pub returns-in-17 : goal.returns-in-17
+pub returns-in-Join : goal.returns-in-Join
 unfolding branches_after
-returns-in-17 c = rw c.in-17.is
+returns-in-Join c = rw c.in-Join.is
 
-pub returns-in-21 : goal.returns-in-21
+pub returns-in-Loop : goal.returns-in-Loop
 unfolding branches_after
-returns-in-21 c = rw c.in-21.is
+returns-in-Loop c = rw c.in-Loop.is
 
-pub returns-in-22 : goal.returns-in-22
+pub returns-in-Again : goal.returns-in-Again
 unfolding branches_after
-returns-in-22 c = rw c.in-22.is
+returns-in-Again c = rw c.in-Again.is
 
 pub returns-in_default : goal.returns-in_default
 unfolding branches_after
 returns-in_default c =
-    rw (ne_eqb _ 15 c.in_default.in_default-own.rest.0.0.0.0.1, ne_eqb _ 16 c.in_default.in_default-own.rest.0.0.0.1, ne_eqb _ 17 c.in_default.in_default-own.rest.0.0.1, ne_eqb _ 21 c.in_default.in_default-own.rest.0.1, ne_eqb _ 22 c.in_default.in_default-own.rest.1)
+    rw (other c.in_default.not-If, other c.in_default.not-Else, other c.in_default.not-Join, other c.in_default.not-Loop, other c.in_default.not-Again)

@@ -1,29 +1,29 @@
-use borrow.Author.Tests.{ne_eqb}
+use Rattle.rules.proofs.KindNumbers.{other}
 use Rattle.read_grammar.specs.Coded.{fits}
 use Rattle.read_grammar.proofs.places.fits.Goals as goal
 
 -- `fits` meets its contract. Assumes nothing.
-pub returns-in-12 : goal.returns-in-12
+pub returns-in-Return : goal.returns-in-Return
 unfolding fits
-returns-in-12 c = rw c.in-12.is
+returns-in-Return c = rw c.in-Return.is
 
-pub returns-in-16 : goal.returns-in-16
+pub returns-in-Else : goal.returns-in-Else
 unfolding fits
-returns-in-16 c = rw c.in-16.is
+returns-in-Else c = rw c.in-Else.is
 
-pub returns-in-17 : goal.returns-in-17
+pub returns-in-Join : goal.returns-in-Join
 unfolding fits
-returns-in-17 c = rw c.in-17.is
+returns-in-Join c = rw c.in-Join.is
 
-pub returns-in-22 : goal.returns-in-22
+pub returns-in-Again : goal.returns-in-Again
 unfolding fits
-returns-in-22 c = rw c.in-22.is
+returns-in-Again c = rw c.in-Again.is
 
-pub returns-in-18 : goal.returns-in-18
+pub returns-in-End : goal.returns-in-End
 unfolding fits
-returns-in-18 c = rw c.in-18.is
+returns-in-End c = rw c.in-End.is
 
 pub returns-in_default : goal.returns-in_default
 unfolding fits
 returns-in_default c =
-    rw (ne_eqb _ 12 c.in_default.in_default-own.rest.0.0.0.0.1, ne_eqb _ 16 c.in_default.in_default-own.rest.0.0.0.1, ne_eqb _ 17 c.in_default.in_default-own.rest.0.0.1, ne_eqb _ 22 c.in_default.in_default-own.rest.0.1, ne_eqb _ 18 c.in_default.in_default-own.rest.1)
+    rw (other c.in_default.not-Return, other c.in_default.not-Else, other c.in_default.not-Join, other c.in_default.not-Again, other c.in_default.not-End)

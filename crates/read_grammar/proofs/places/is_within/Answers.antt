@@ -1,44 +1,46 @@
+use mathlib.Core.Path.{ap}
 use borrow.Author.Tests.{le-leb, lt-leb}
 use native.Mathlib.Omega.{arith}
-use Rattle.read_grammar.proofs.Rows.{passed}
+use Rattle.rules.specs.Numbered.{number}
+use Rattle.rules.proofs.KindNumbers.{statement_left}
 use Rattle.read_grammar.proofs.Coded.{counted, counts, counts-statement}
 use Rattle.read_grammar.proofs.places.is_within.Goals as goal
 
 -- `is_within` meets its contract. Assumes nothing.
 pub returns-then-q-gt-STATEMENTS : goal.returns-then-q-gt-STATEMENTS
 returns-then-q-gt-STATEMENTS c =
-    let h = passed 7 c.args.kind c.requires.0 c.in_default.in_default-own.rest in
-    rw (counts-statement _ _ c.requires.1 h, lt-leb _ 256 c.if-q-gt-STATEMENTS.true)
+    let h = statement_left c.args.kind c.in_default.not-Class c.in_default.not-Field c.in_default.not-Method c.in_default.not-Requires c.in_default.not-Ensures c.in_default.not-Main c.in_default.not-Var in
+    rw (counts-statement _ _ c.requires h, lt-leb _ 256 c.if-q-gt-STATEMENTS.true)
 
-pub returns-in-1 : goal.returns-in-1
+pub returns-in-Class : goal.returns-in-Class
 unfolding counted
-returns-in-1 c = rw (counts _ _ c.requires.1 (omega arith), c.in-1.is)
+returns-in-Class c = let n = ap number c.in-Class.is in rw (counts _ _ c.requires (omega (arith, n)), n)
 
-pub returns-in-2 : goal.returns-in-2
+pub returns-in-Field : goal.returns-in-Field
 unfolding counted
-returns-in-2 c = rw (counts _ _ c.requires.1 (omega arith), c.in-2.is)
+returns-in-Field c = let n = ap number c.in-Field.is in rw (counts _ _ c.requires (omega (arith, n)), n)
 
-pub returns-in-3 : goal.returns-in-3
+pub returns-in-Method : goal.returns-in-Method
 unfolding counted
-returns-in-3 c = rw (counts _ _ c.requires.1 (omega arith), c.in-3.is)
+returns-in-Method c = let n = ap number c.in-Method.is in rw (counts _ _ c.requires (omega (arith, n)), n)
 
-pub returns-in-4 : goal.returns-in-4
+pub returns-in-Requires : goal.returns-in-Requires
 unfolding counted
-returns-in-4 c = rw (counts _ _ c.requires.1 (omega arith), c.in-4.is)
+returns-in-Requires c = let n = ap number c.in-Requires.is in rw (counts _ _ c.requires (omega (arith, n)), n)
 
-pub returns-in-5 : goal.returns-in-5
+pub returns-in-Ensures : goal.returns-in-Ensures
 unfolding counted
-returns-in-5 c = rw (counts _ _ c.requires.1 (omega arith), c.in-5.is)
+returns-in-Ensures c = let n = ap number c.in-Ensures.is in rw (counts _ _ c.requires (omega (arith, n)), n)
 
-pub returns-in-6 : goal.returns-in-6
+pub returns-in-Main : goal.returns-in-Main
 unfolding counted
-returns-in-6 c = rw (counts _ _ c.requires.1 (omega arith), c.in-6.is)
+returns-in-Main c = let n = ap number c.in-Main.is in rw (counts _ _ c.requires (omega (arith, n)), n)
 
-pub returns-in-7 : goal.returns-in-7
+pub returns-in-Var : goal.returns-in-Var
 unfolding counted
-returns-in-7 c = rw (counts _ _ c.requires.1 (omega arith), c.in-7.is)
+returns-in-Var c = let n = ap number c.in-Var.is in rw (counts _ _ c.requires (omega (arith, n)), n)
 
 pub returns-else-q-gt-STATEMENTS : goal.returns-else-q-gt-STATEMENTS
 returns-else-q-gt-STATEMENTS c =
-    let h = passed 7 c.args.kind c.requires.0 c.in_default.in_default-own.rest in
-    rw (counts-statement _ _ c.requires.1 h, le-leb _ 256 c.if-q-gt-STATEMENTS.false)
+    let h = statement_left c.args.kind c.in_default.not-Class c.in_default.not-Field c.in_default.not-Method c.in_default.not-Requires c.in_default.not-Ensures c.in_default.not-Main c.in_default.not-Var in
+    rw (counts-statement _ _ c.requires h, le-leb _ 256 c.if-q-gt-STATEMENTS.false)

@@ -5,51 +5,51 @@ use Rattle.rules.specs.Places.{one_more_if}
 use Rattle.read_grammar.specs.declared.Row.{Row}
 use Rattle.read_grammar.specs.Rows.{row_of}
 use Rattle.read_grammar.specs.Coded.{place_after, stage_after, branches_after}
-use Rattle.read_grammar.proofs.Rows.{passed}
+use Rattle.rules.proofs.KindNumbers.{statement_left}
 use Rattle.read_grammar.proofs.Coded.{low}
 use Rattle.read_grammar.proofs.places.place_after.Goals as goal
 
 pub overflow_add-result : goal.overflow_add-result
-overflow_add-result c = omega (arith, (low c.args.p c.requires.1).classes)
+overflow_add-result c = omega (arith, (low c.args.p c.requires).classes)
 
-pub overflow_add-result-in-2 : goal.overflow_add-result-in-2
-overflow_add-result-in-2 c = omega (arith, (low c.args.p c.requires.1).fields)
+pub overflow_add-result-in-Field : goal.overflow_add-result-in-Field
+overflow_add-result-in-Field c = omega (arith, (low c.args.p c.requires).fields)
 
-pub overflow_add-result-in-3 : goal.overflow_add-result-in-3
-overflow_add-result-in-3 c = omega (arith, (low c.args.p c.requires.1).methods)
+pub overflow_add-result-in-Method : goal.overflow_add-result-in-Method
+overflow_add-result-in-Method c = omega (arith, (low c.args.p c.requires).methods)
 
-pub overflow_add-result-in-7 : goal.overflow_add-result-in-7
-overflow_add-result-in-7 c = omega (arith, (low c.args.p c.requires.1).locals)
+pub overflow_add-result-in-Var : goal.overflow_add-result-in-Var
+overflow_add-result-in-Var c = omega (arith, (low c.args.p c.requires).locals)
 
 pub with_statement-requires : goal.with_statement-requires
 unfolding row_of
 with_statement-requires c =
-    (passed 7 c.args.kind c.requires.0.0 c.in_default.in_default-own.rest, ap (λ (r : Row). r.next) c.row_of-row.ensures, c.requires.1)
+    (statement_left c.args.kind c.in_default.not-Class c.in_default.not-Field c.in_default.not-Method c.in_default.not-Requires c.in_default.not-Ensures c.in_default.not-Main c.in_default.not-Var, ap (λ (r : Row). r.next) c.row_of-row.ensures, c.requires)
 
-pub returns-in-1 : goal.returns-in-1
+pub returns-in-Class : goal.returns-in-Class
 unfolding row_of place_after stage_after branches_after one_more_if
-returns-in-1 c = rw (c.row_of-row.ensures, c.in-1.is, add-one)
+returns-in-Class c = rw (c.row_of-row.ensures, c.in-Class.is, add-one)
 
-pub returns-in-2 : goal.returns-in-2
+pub returns-in-Field : goal.returns-in-Field
 unfolding row_of place_after stage_after branches_after one_more_if
-returns-in-2 c = rw (c.row_of-row.ensures, c.in-2.is, add-one)
+returns-in-Field c = rw (c.row_of-row.ensures, c.in-Field.is, add-one)
 
-pub returns-in-3 : goal.returns-in-3
+pub returns-in-Method : goal.returns-in-Method
 unfolding row_of place_after stage_after branches_after one_more_if
-returns-in-3 c = rw (c.row_of-row.ensures, c.in-3.is, add-one)
+returns-in-Method c = rw (c.row_of-row.ensures, c.in-Method.is, add-one)
 
-pub returns-in-4 : goal.returns-in-4
+pub returns-in-Requires : goal.returns-in-Requires
 unfolding row_of place_after stage_after branches_after one_more_if
-returns-in-4 c = rw (c.row_of-row.ensures, c.in-4.is)
+returns-in-Requires c = rw (c.row_of-row.ensures, c.in-Requires.is)
 
-pub returns-in-5 : goal.returns-in-5
+pub returns-in-Ensures : goal.returns-in-Ensures
 unfolding row_of place_after stage_after branches_after one_more_if
-returns-in-5 c = rw (c.row_of-row.ensures, c.in-5.is)
+returns-in-Ensures c = rw (c.row_of-row.ensures, c.in-Ensures.is)
 
-pub returns-in-6 : goal.returns-in-6
+pub returns-in-Main : goal.returns-in-Main
 unfolding row_of place_after stage_after branches_after one_more_if
-returns-in-6 c = rw (c.row_of-row.ensures, c.in-6.is)
+returns-in-Main c = rw (c.row_of-row.ensures, c.in-Main.is)
 
-pub returns-in-7 : goal.returns-in-7
+pub returns-in-Var : goal.returns-in-Var
 unfolding row_of place_after stage_after branches_after one_more_if
-returns-in-7 c = rw (c.row_of-row.ensures, c.in-7.is, add-one)
+returns-in-Var c = rw (c.row_of-row.ensures, c.in-Var.is, add-one)

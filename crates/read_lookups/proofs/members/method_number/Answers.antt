@@ -4,4 +4,4 @@ use native.Mathlib.Omega.{arith}
 use Rattle.read_lookups.proofs.members.method_number.Goals as goal
 
 pub returns : goal.returns
-returns c = (c.find.ensures.0 ∙ method-index _ _ _ _ _ (c.class_number-k.ensures.0 ∙ rw c.name_in.ensures) (omega (arith, c.class_number-k.ensures.1, c.requires.1.classes)) _, c.find.ensures.1)
+returns c = (c.find.ensures.0 ∙ method-index _ _ _ _ _ (c.class_number-k.ensures.0 ∙ rw c.name_in.ensures) (omega (arith, c.class_number-k.ensures.1, c.requires.classes)) _, c.find.ensures.1)
