@@ -1,7 +1,7 @@
 // `call`, `return`, `end` and `new` of the lean machine: a frame more, a frame less, an object more; formulas are not read.
 #![tactic(auto)]
 
-ghost use Rattle.std.specs.Prelude.{◌⊎◌, ◌≡◌, ◌+◌, ◌*◌, ◌≤◌, ◌<◌, length};
+ghost use Rattle.std.specs.Prelude.{◌⊎◌, ◌≡◌, ◌+◌, ◌*◌, ◌≤◌, ◌<◌};
 ghost use Rattle.rules.specs.Limits.{work_bytes, most_statements, most_classes, most_frames, heap_objects, heap_fields};
 ghost use Rattle.rules.specs.Grammar.{New, Call, Return, End};
 ghost use Rattle.tables.specs.Layout.{frame_bytes};
@@ -12,11 +12,12 @@ ghost use Rattle.lean_calls.specs.Calls.{called, back, larger, framed, made};
 use lean_heap::{Counters, Stop, Turn};
 use rules::Machine;
 use run_heap::Stores;
-use tables::Layout;
+use tables::{Area, Layout};
 
 // The place of the next frame, after that at a, and the row that this one must keep.
-fn prepare(work: &mut [u8], a: usize, row: usize, o: u32, p: u32)
-    requires { (length work.old ≡ work_bytes) × ((a + frame_bytes + frame_bytes ≤ work_bytes) × (row < most_statements)) }
+#[tactic(auto, unfolding(crate::specs::Calls::framed))]
+fn prepare(work: &mut Area, a: usize, row: usize, o: u32, p: u32)
+    requires { (a + frame_bytes + frame_bytes ≤ work_bytes) × (row < most_statements) }
     ensures { work.new ≡ framed work.old a (a + frame_bytes) row o p }
 {
     let b = a + Layout::FRAME_BYTES;
@@ -42,7 +43,7 @@ fn call_in(c: Counters, row: u32) -> Counters
 }
 
 // `call`: frames full, or the method's first row with a frame more. The receiver is an object, and requires holds.
-pub fn call_step(work: &mut [u8], c: Counters) -> Turn
+pub fn call_step(work: &mut Area, c: Counters) -> Turn
     requires { CanStep work.old c × AtKind work.old c Call }
     ensures { Does work.old c work.new result }
 {
@@ -77,7 +78,7 @@ fn back_in(c: Counters, row: u32) -> Counters
 }
 
 // `return` and `end`: main's `end` is the last step; else the caller goes on, and its x is the result. Ensures holds.
-pub fn back_step(work: &mut [u8], c: Counters) -> Turn
+pub fn back_step(work: &mut Area, c: Counters) -> Turn
     requires { CanStep work.old c × (AtKind work.old c Return ⊎ AtKind work.old c End) }
     ensures { Does work.old c work.new result }
 {
@@ -95,8 +96,9 @@ pub fn back_step(work: &mut [u8], c: Counters) -> Turn
 }
 
 // Object i + 1, of a class with n fields, which are the cells from k on.
-fn make_object(work: &mut [u8], i: usize, k: usize, class: usize, n: usize)
-    requires { (length work.old ≡ work_bytes) × (((i < heap_objects) × (k + n ≤ heap_fields)) × (class < most_classes)) }
+#[tactic(auto, unfolding(crate::specs::Calls::made))]
+fn make_object(work: &mut Area, i: usize, k: usize, class: usize, n: usize)
+    requires { ((i < heap_objects) × (k + n ≤ heap_fields)) × (class < most_classes) }
     ensures { work.new ≡ made work.old i k n class }
 {
     let at = Layout::OBJECTS + i * Layout::OBJECT_BYTES;
@@ -121,7 +123,7 @@ fn grow(c: Counters, n: u32) -> Counters
 }
 
 // `new`: "22 only where `new` would pass 256 objects or 1,024 fields".
-pub fn new_step(work: &mut [u8], c: Counters) -> Turn
+pub fn new_step(work: &mut Area, c: Counters) -> Turn
     requires { CanStep work.old c × AtKind work.old c New }
     ensures { Does work.old c work.new result }
 {

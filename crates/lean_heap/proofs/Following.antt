@@ -18,6 +18,7 @@ use Rattle.soundness.proofs.LeanFollows.{Only}
 use Rattle.tables.specs.Layout.{frame_variables, most_atom_rows, frames_at}
 use Rattle.tables.specs.declared.Expr as Tables
 use Rattle.tables.specs.declared.Operands.{Operands}
+use Rattle.rules.specs.Grammar.{IsStatementNumber}
 use Rattle.tables.specs.Decode.{byte_at, expr_at, atom_place, left_at, right_at, kind_at, x_at, y_at, z_at, member_at, first_atom_at, operands_at, target_at, atom_count, program_in}
 use Rattle.tables.specs.Tables.{Tables, OperandsFit, SideFits, declared_in}
 use Rattle.tables.specs.Stores.{SameTables, put_word, meaning}
@@ -27,7 +28,7 @@ use Rattle.tables.proofs.Decoding.{tables-same, program-same, kind-same}
 use Rattle.run_heap.specs.declared.Fault.{Fault}
 use Rattle.run_heap.specs.Views as Views
 use Rattle.run_heap.specs.Views.{frame_holder, frame_at, variable_at, cell_value, spot, read_in, view_of, ObjectFits}
-use Rattle.run_heap.proofs.Reading.{spot_is_lem, cell-small}
+use Rattle.run_heap.proofs.Reading.{spot-is, cell-small}
 use Rattle.run_footprint.proofs.Regions.{only-word, only-tables}
 use Rattle.run_footprint.proofs.Cells.{SameObjects, cell-kept, fits_kept}
 use Rattle.run_steps.specs.States as States
@@ -177,7 +178,7 @@ module _ {w : List ℕ} {c : Counters} {m : Config} (S : Stands w c m) where
       × (j < heap_fields)
   path-there n x f j l e =
       let o : ℕ = variable_at S.ghost (frame_at (c.frames - 1)) x in
-      let k = (spot_is_lem S.ghost (view_of (full c S.holder S.holders)) n x f j e).0 in
+      let k = (spot-is S.ghost (view_of (full c S.holder S.holders)) n x f j e).0 in
       let there : There w o f =
       record {
         tables = tables;
@@ -230,6 +231,10 @@ module _ {w : List ℕ} {c : Counters} (R : CanStep w c) where
 
   pub has-row : c.row < most_statements
   has-row = row_small R.stands
+
+  -- every row is a statement's
+  pub has-kind : IsStatementNumber (kind_at w c.row)
+  has-kind = subst IsStatementNumber (kind-is R.stands refl) (fits R.stands).kind
 
   pub has-frames : (1 ≤ c.frames) × (c.frames ≤ most_frames)
   has-frames = frames-fit R.stands

@@ -10,7 +10,7 @@ ghost use Rattle.run_steps.specs.States.{most_count};
 ghost use Rattle.lean_heap.specs.Ghosts.{There, cell_in, value_in, Readable, stepped};
 
 use run_heap::Stores;
-use tables::{Expr, Layout};
+use tables::{Area, Expr, Layout};
 
 // The lean machine's counters.
 #[derive(Clone, Copy)]
@@ -44,7 +44,7 @@ pub fn base_of(c: Counters) -> usize
 }
 
 // The cell of a field of the object o.
-pub fn cell_of(work: &[u8], o: u32, f: usize) -> usize
+pub fn cell_of(work: &Area, o: u32, f: usize) -> usize
     requires { There work.now o f × (f < most_names) }
     ensures { (result ≡ cell_in work.now o f) × (result < heap_fields) }
 {
@@ -56,7 +56,8 @@ pub fn cell_of(work: &[u8], o: u32, f: usize) -> usize
 }
 
 // The value of `x.f`, by the frame at b.
-pub fn path_value(work: &[u8], b: usize, x: usize, f: usize) -> u32
+#[tactic(auto, unfolding(run_heap::specs::Views::cell_value))]
+pub fn path_value(work: &Area, b: usize, x: usize, f: usize) -> u32
     requires { ((b + frame_holder ≤ length work.now) × (x < frame_variables)) × ((f < most_names) × There work.now (variable_at work.now b x) f) }
     ensures { result ≡ cell_value work.now (cell_in work.now (variable_at work.now b x) f) }
 {
@@ -66,7 +67,8 @@ pub fn path_value(work: &[u8], b: usize, x: usize, f: usize) -> u32
 }
 
 // The value of an expression, by the frame at b.
-pub fn value(work: &[u8], b: usize, e: Expr) -> u32
+#[tactic(auto, unfolding(crate::specs::Ghosts::value_in, tables::specs::Stores::meaning))]
+pub fn value(work: &Area, b: usize, e: Expr) -> u32
     requires { (b + frame_holder ≤ length work.now) × Readable work.now b e }
     ensures { result ≡ value_in work.now b (meaning e) }
 {

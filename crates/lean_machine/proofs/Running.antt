@@ -9,7 +9,6 @@ use lib.ListN.{length}
 use Rattle.rules.specs.Limits.{most_statements, values_shown}
 use Rattle.rules.specs.Answers as Answers
 use Rattle.rules.specs.Syntax.{Program}
-use Rattle.rules.specs.Grammar.{IsStatementNumber, statement_number}
 use Rattle.rules.specs.Lean as Lean
 use Rattle.rules.specs.Machine.{Config, Outcome, Step, on, stop, done, step, run, go_on, ends, start, run_program}
 use Rattle.rules.specs.Calls.{whole_heap}
@@ -17,7 +16,7 @@ use Rattle.soundness.specs.Endings.{EndsUnstuck}
 use Rattle.soundness.proofs.NeverStuck.{accepted-ends-unstuck}
 use Rattle.soundness.proofs.LeanRuns.{accepted-lean}
 use Rattle.tables.specs.Layout.{frame_variables, frames_at}
-use Rattle.tables.specs.Decode.{word_at, kind_at, line_at, main_first, program_in}
+use Rattle.tables.specs.Decode.{word_at, line_at, main_first, program_in}
 use Rattle.tables.specs.Tables.{Tables}
 use Rattle.tables.specs.Stores.{SameTables, Kept}
 use Rattle.tables.proofs.BytesRead.{same-trans, same_refl, word_kept, half-kept}
@@ -29,7 +28,7 @@ use Rattle.lean_heap.specs.declared.Counters.{Counters}
 use Rattle.lean_heap.specs.declared.Stop.{Stop}
 use Rattle.std.specs.Prelude.{Some, None, Ok, Err}
 use Rattle.lean_heap.specs.Ghosts.{Stands, Unstuck, Goes, Does, CanStep, stop_of}
-use Rattle.lean_heap.proofs.Following.{ghost-tables, tables, row_small, fits, kind-is}
+use Rattle.lean_heap.proofs.Following.{ghost-tables, tables, row_small}
 use Rattle.run_steps.specs.declared.ends.Ending.{Ending}
 use Rattle.lean_machine.specs.Runs.{Ran, Accepted, fresh, ending_in, RanAs}
 
@@ -208,19 +207,3 @@ module _ {w₀ w : List ℕ} {k : ℕ} {c : Counters} (G : Going w₀ w k c) whe
   ends-finished {w'} r l D =
       let (e, S) = D.follows G.state G.stands (unstuck l) in
       ended-as Ending.Finished (c.steps + 1) r D.tables S (rw add-one (at-stop l done e))
-
--- every row is a statement's
-pub has-kind : {w : List ℕ} {c : Counters} → CanStep w c → IsStatementNumber (kind_at w c.row)
-has-kind R = let S = R.stands in subst IsStatementNumber (kind-is S refl) (fits S).kind
-
-up : (a k : ℕ) → a ≤ k → (k ≡ a → ⊥) → a + 1 ≤ k
-up a k l n = omega arith
-
--- the kinds of statement go from 8 to 24
-pub no_other :
-    (k : ℕ) → IsStatementNumber k → (k ≡ 8 → ⊥) → (k ≡ 9 → ⊥) → (k ≡ 10 → ⊥) → (k ≡ 11 → ⊥) → (k ≡ 12 → ⊥) → (k ≡ 13 → ⊥) → (k ≡ 14 → ⊥) → (k ≡ 15 → ⊥) →
-    (k ≡ 16 → ⊥) → (k ≡ 17 → ⊥) → (k ≡ 18 → ⊥) → (k ≡ 19 → ⊥) → (k ≡ 20 → ⊥) → (k ≡ 21 → ⊥) → (k ≡ 22 → ⊥) → (k ≡ 23 → ⊥) → (k ≡ 24 → ⊥) → ⊥
-unfolding statement_number
-no_other k (low, high) n8 n9 n10 n11 n12 n13 n14 n15 n16 n17 n18 n19 n20 n21 n22 n23 n24 =
-    let below : 17 ≤ k = up 16 k (up 15 k (up 14 k (up 13 k (up 12 k (up 11 k (up 10 k (up 9 k (up 8 k low n8) n9) n10) n11) n12) n13) n14) n15) n16 in
-    omega (arith, high, up 24 k (up 23 k (up 22 k (up 21 k (up 20 k (up 19 k (up 18 k (up 17 k below n17) n18) n19) n20) n21) n22) n23) n24)

@@ -14,10 +14,7 @@ use lean_heap::{Counters, Stop, Turn};
 use rules::{Kind, Number};
 use run_heap::Stores;
 use run_steps::Ending;
-use tables::Layout;
-
-// The first number past those of the kinds.
-const UNKNOWN: u8 = Kind::LAST + 1;
+use tables::{Area, Layout};
 
 // What a run ends with; main's values are in its frame. 24, 25 and 26 are not among how it ends.
 pub type Ran = run_steps::Ran<Stop>;
@@ -46,32 +43,38 @@ pub fn number_of(e: Ending<Stop>) -> u32
 
 // "Each statement line is one step": by the kind of the row.
 #[tactic(auto, unfolding(rules::specs::Grammar::statement_number, rules::specs::Grammar::is_computing))]
-fn step(work: &mut [u8], c: Counters) -> Turn
+fn step(work: &mut Area, c: Counters) -> Turn
     requires { CanStep work.old c }
     ensures { Does work.old c work.new result }
 {
     let row = c.row as usize;
-    match tables::kind_at(work, row) {
-        Kind::SET => lean_steps::set_step(work, c),
-        Kind::LET => lean_steps::let_step(work, c),
-        Kind::NEW => lean_calls::new_step(work, c),
-        Kind::CALL => lean_calls::call_step(work, c),
-        Kind::RETURN | Kind::END => lean_calls::back_step(work, c),
-        Kind::ADD => lean_steps::compute_step(work, c, Kind::ADD),
-        Kind::SUB => lean_steps::compute_step(work, c, Kind::SUB),
-        Kind::IF | Kind::LOOP => lean_steps::choose_step(work, c),
-        Kind::ELSE | Kind::AGAIN => lean_steps::jump_step(work, c),
-        Kind::ASSERT | Kind::JOIN => lean_steps::pass_step(work, c),
-        Kind::RELEASE => lean_steps::pass_step(work, c),
-        Kind::OPEN => lean_steps::open_step(work, c),
-        Kind::SHUT => lean_steps::pass_step(work, c),
+    match tables::row_kind(work, row) {
+        Kind::Set => lean_steps::set_step(work, c),
+        Kind::Let => lean_steps::let_step(work, c),
+        Kind::New => lean_calls::new_step(work, c),
+        Kind::Call => lean_calls::call_step(work, c),
+        Kind::Return | Kind::End => lean_calls::back_step(work, c),
+        Kind::Add => lean_steps::compute_step(work, c, Kind::Add),
+        Kind::Sub => lean_steps::compute_step(work, c, Kind::Sub),
+        Kind::If | Kind::Loop => lean_steps::choose_step(work, c),
+        Kind::Else | Kind::Again => lean_steps::jump_step(work, c),
+        Kind::Assert | Kind::Join => lean_steps::pass_step(work, c),
+        Kind::Release => lean_steps::pass_step(work, c),
+        Kind::Open => lean_steps::open_step(work, c),
+        Kind::Shut => lean_steps::pass_step(work, c),
         // No row is of another kind, so that any answer meets the contract.
-        0..=Kind::VAR | UNKNOWN..=u8::MAX => Ok(None),
+        Kind::Class
+        | Kind::Field
+        | Kind::Method
+        | Kind::Requires
+        | Kind::Ensures
+        | Kind::Main
+        | Kind::Var => Ok(None),
     }
 }
 
 // "from the empty heap and main's frame"
-fn begin(work: &mut [u8]) -> Counters
+fn begin(work: &mut Area) -> Counters
     requires { Tables work.old }
     ensures { (result ≡ fresh (main_first work.old)) × (work.new ≡ fill work.old frames_at frame_variables 0) }
 {
@@ -88,7 +91,7 @@ fn begin(work: &mut [u8]) -> Counters
 }
 
 // At most so many steps of the accepted program in the tables: "A run tests 21 before each step"; "A stopped step is not counted".
-pub fn run(work: &mut [u8], steps: u32) -> Ran
+pub fn run(work: &mut Area, steps: u32) -> Ran
     requires { Tables work.old × Accepted (program_in work.old) }
     ensures { RanAs work.old steps work.new result }
 {

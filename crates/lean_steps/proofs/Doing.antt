@@ -19,6 +19,9 @@ use Rattle.rules.proofs.Tries.{no_ok, bind_ok}
 use Rattle.soundness.proofs.LeanFollows.{locate-only, value-only, take_walk-only, footprint-only}
 use Rattle.tables.specs.Layout.{frame_variables, most_names, most_atom_rows, values_at, holders_at}
 use Rattle.tables.specs.declared.Expr as Tables
+use Rattle.tables.specs.declared.kinds.AtomKind.{AtomKind}
+use Rattle.tables.specs.Kinds.{kind_of, kind_number}
+use Rattle.tables.proofs.AtomKinds.{rel-kind}
 use Rattle.tables.specs.Decode.{byte_at, atom_place, left_at, right_at, rel_of, kind_at, operation_of, x_at, y_at, z_at, member_at, target_at, first_atom_at, atom_count, formula_at, program_in}
 use Rattle.tables.specs.Stores.{put_word, meaning}
 use Rattle.tables.proofs.BytesRead.{same_refl}
@@ -246,11 +249,11 @@ module _ {w : List ℕ} {c : Counters} {a : ℕ} (R : CanStep w c) (chooses : Ch
   right-readable b e eb q = (right-read a R.more R.state R.stands R.unstuck first b e eb q).0
 
   module _
-      (b l r n : ℕ) (el er : Tables.Expr) (t : Bool) (eb : b ≡ frame_at (c.frames - 1)) (ml : meaning el ≡ left_at w a)
+      (b l r : ℕ) (n : AtomKind) (el er : Tables.Expr) (t : Bool) (eb : b ≡ frame_at (c.frames - 1)) (ml : meaning el ≡ left_at w a)
       (mr : meaning er ≡ right_at w a) (vl : l ≡ value_in w b (meaning el)) (vr : r ≡ value_in w b (meaning er))
-      (en : n ≡ byte_at w (atom_place a)) (et : t ≡ compared (rel_of n) l r) where
+      (en : n ≡ kind_of (byte_at w (atom_place a))) (et : t ≡ compared (rel_of (kind_number n)) l r) where
     compares : t ≡ compared (rel_of (byte_at w (atom_place a))) l r
-    compares = et ∙ ap (λ (i : ℕ). compared (rel_of i) l r) en
+    compares = et ∙ ap (λ i. compared i l r) (ap (λ k. rel_of (kind_number k)) en ∙ rel-kind (byte_at w (atom_place a)))
 
     pub condition-holds : t ≡ true → {d : Counters} → d ≡ stepped c (c.row + 1) → Does w c w (Ok (Some d))
     condition-holds h q =

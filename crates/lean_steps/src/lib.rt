@@ -1,9 +1,10 @@
 // The lean machine's steps that stay in their frame. No formula is evaluated, and no null, object or permission is tested.
 #![tactic(auto)]
 
-ghost use Rattle.std.specs.Prelude.{◌≡◌, ◌≤◌, ◌<◌, T, length};
-ghost use Rattle.rules.specs.Limits.{work_bytes, most_statements};
-ghost use Rattle.rules.specs.Grammar.{Set, Let, Open, loop_kind, is_computing};
+ghost use Rattle.std.specs.Prelude.{◌≡◌, ◌≤◌, ◌<◌, T};
+ghost use Rattle.rules.specs.Numbered.{number};
+ghost use Rattle.rules.specs.Limits.{most_statements};
+ghost use Rattle.rules.specs.Grammar.{Set, Let, Open, IsStatementNumber, loop_kind, is_computing};
 ghost use Rattle.tables.specs.Decode.{kind_at, first_atom_at};
 ghost use Rattle.lean_heap.specs.Ghosts.{CanStep, AtKind, Does};
 ghost use Rattle.lean_steps.specs.Rows.{Passes, Jumps, Chooses, condition_of};
@@ -11,10 +12,10 @@ ghost use Rattle.lean_steps.specs.Rows.{Passes, Jumps, Chooses, condition_of};
 use lean_heap::{Counters, Stop, Turn};
 use rules::Kind;
 use run_heap::Stores;
-use tables::Layout;
+use tables::{Area, Layout};
 
 // `assert`, `join`, `release` and `shut`: on to the next line.
-pub fn pass_step(work: &[u8], c: Counters) -> Turn
+pub fn pass_step(work: &Area, c: Counters) -> Turn
     requires { CanStep work.now c × Passes work.now c }
     ensures { Does work.now c work.now result }
 {
@@ -22,7 +23,7 @@ pub fn pass_step(work: &[u8], c: Counters) -> Turn
 }
 
 // `else`, "on to its `join`", and `again`, "a step back to" its `loop`.
-pub fn jump_step(work: &[u8], c: Counters) -> Turn
+pub fn jump_step(work: &Area, c: Counters) -> Turn
     requires { CanStep work.now c × Jumps work.now c }
     ensures { Does work.now c work.now result }
 {
@@ -31,12 +32,12 @@ pub fn jump_step(work: &[u8], c: Counters) -> Turn
 }
 
 // The condition: of an `if` its atom, of a `loop` the one before its invariant.
-fn condition_at(work: &[u8], row: usize) -> usize
-    requires { ((length work.now ≡ work_bytes) × (row < most_statements)) × (kind_at work.now row ≡ loop_kind → 1 ≤ first_atom_at work.now row) }
+fn condition_at(work: &Area, row: usize) -> usize
+    requires { ((row < most_statements) × IsStatementNumber (kind_at work.now row)) × (kind_at work.now row ≡ loop_kind → 1 ≤ first_atom_at work.now row) }
     ensures { result ≡ condition_of work.now row }
 {
     let a = tables::first_atom_at(work, row);
-    if tables::kind_at(work, row) == Kind::LOOP {
+    if tables::row_kind(work, row) == Kind::Loop {
         return a - 1;
     }
     a
@@ -44,7 +45,7 @@ fn condition_at(work: &[u8], row: usize) -> usize
 
 // `if` and `loop`: on to the next row where the condition holds, and else to the row's target. One function for both, since the compiler puts
 // a function into its only caller.
-pub fn choose_step(work: &[u8], c: Counters) -> Turn
+pub fn choose_step(work: &Area, c: Counters) -> Turn
     requires { CanStep work.now c × Chooses work.now c }
     ensures { Does work.now c work.now result }
 {
@@ -60,7 +61,7 @@ pub fn choose_step(work: &[u8], c: Counters) -> Turn
 }
 
 // `let`.
-pub fn let_step(work: &mut [u8], c: Counters) -> Turn
+pub fn let_step(work: &mut Area, c: Counters) -> Turn
     requires { CanStep work.old c × AtKind work.old c Let }
     ensures { Does work.old c work.new result }
 {
@@ -74,7 +75,7 @@ pub fn let_step(work: &mut [u8], c: Counters) -> Turn
 }
 
 // `open y x f`: "y becomes `x.f`".
-pub fn open_step(work: &mut [u8], c: Counters) -> Turn
+pub fn open_step(work: &mut Area, c: Counters) -> Turn
     requires { CanStep work.old c × AtKind work.old c Open }
     ensures { Does work.old c work.new result }
 {
@@ -89,8 +90,8 @@ pub fn open_step(work: &mut [u8], c: Counters) -> Turn
 }
 
 // `add` and `sub`, by the kind of the row. The caller names the kind, so that the compiler makes one step for each.
-pub fn compute_step(work: &mut [u8], c: Counters, kind: u8) -> Turn
-    requires { CanStep work.old c × ((kind ≡ kind_at work.old c.row) × T (is_computing kind)) }
+pub fn compute_step(work: &mut Area, c: Counters, kind: Kind) -> Turn
+    requires { CanStep work.old c × ((number kind ≡ kind_at work.old c.row) × T (is_computing (number kind))) }
     ensures { Does work.old c work.new result }
 {
     let row = c.row as usize;
@@ -104,7 +105,7 @@ pub fn compute_step(work: &mut [u8], c: Counters, kind: u8) -> Turn
 }
 
 // `set`.
-pub fn set_step(work: &mut [u8], c: Counters) -> Turn
+pub fn set_step(work: &mut Area, c: Counters) -> Turn
     requires { CanStep work.old c × AtKind work.old c Set }
     ensures { Does work.old c work.new result }
 {

@@ -1,15 +1,13 @@
 -- A step by the kind of its row is the definition's step.
 use mathlib.Core.Path.{◌≡◌, sym, ap, ◌∙◌, subst}
 use mathlib.Core.List.{List}
-use mathlib.Core.Logic.{◌⊎◌, inl, inr, ⊎_elim}
-use Prim.Native.Nat.{ℕ, ◌+◌, ◌≤◌}
-use native.Mathlib.Omega.{arith}
+use mathlib.Core.Logic.{◌⊎◌, inl, inr}
+use Prim.Native.Nat.{ℕ}
 use lib.Dec.{T}
-use Rattle.rules.specs.Grammar.{Set, Let, New, Call, Return, Assert, Release, If, Join, Loop, End, Open, Shut, IsStatementNumber, statement_number, is_computing}
+use Rattle.rules.specs.Grammar.{Set, Let, New, Call, Return, Assert, Release, If, Join, Loop, End, Open, Shut, statement_number, is_computing}
 use Rattle.rules.specs.Syntax.{Row, Stmt}
 use Rattle.rules.specs.Machine.{Config, Step, Room, statement_of, step, step_at, simple_step}
 use Rattle.rules.specs.declared.Machine.{Machine}
-use Rattle.rules.proofs.Lists.{decide_eq}
 use Rattle.tables.specs.Decode.{row_at, operands_at, stmt_at, kind_at, member_at, program_in}
 use Rattle.tables.proofs.Rows.{method-get, class-get}
 use Rattle.tables.proofs.Statements.{set-means, let-means, new-means, call-means, return-means, assert-means, release-means, if-means, else-means, join-means, loop-means, again-means, open-means, shut-means, end-means, compute-means}
@@ -25,27 +23,6 @@ use Rattle.run_returns.proofs.Resulting.{end_returns}
 statement : {w : List ℕ} {c : Machine} (m : Config) → Represents w c m → statement_of (program_in w) m.frame ≡ stmt_at w c.row
 unfolding row_at statement_of
 statement m R = ap (λ (r : Row). r.stmt) (row-of R.frame)
-
-up : (a k : ℕ) → a ≤ k → (k ≡ a → ⊥) → a + 1 ≤ k
-up a k l n = omega arith
-
--- a statement that is none of the others is `add` or `sub`
-pub is-computing :
-    (k : ℕ) → IsStatementNumber k → (k ≡ 8 → ⊥) → (k ≡ 9 → ⊥) → (k ≡ 10 → ⊥) → (k ≡ 11 → ⊥) → (k ≡ 12 → ⊥) →
-    ((k ≡ 13) ⊎ (k ≡ 17) → ⊥) → (k ≡ 14 → ⊥) → (k ≡ 15 → ⊥) → (k ≡ 21 → ⊥) → ((k ≡ 16) ⊎ (k ≡ 22) → ⊥) → (k ≡ 23 → ⊥) →
-    (k ≡ 24 → ⊥) → (k ≡ 18 → ⊥) → T (is_computing k)
-unfolding is_computing statement_number
-is-computing k (low, high) a b c d e f g i o j p q n =
-    let l1 : 13 ≤ k = up 12 k (up 11 k (up 10 k (up 9 k (up 8 k low a) b) c) d) e in
-    let l2 : 17 ≤ k = up 16 k (up 15 k (up 14 k (up 13 k l1 (λ z. f (inl z))) g) i) (λ z. j (inl z)) in
-    let l3 : 19 ≤ k = up 18 k (up 17 k l2 (λ z. f (inr z))) n in
-    ⊎_elim (λ z. rw z tt) (λ n19. ⊎_elim (λ z. rw z tt) (λ n20.
-    let l4 : 25 ≤ k = up 24 k (up 23 k (up 22 k (up 21 k (up 20 k (up 19 k l3 n19) n20) o) (λ z. j (inr z))) p) q in
-    absurd (omega (arith, l4, high))) (decide_eq k 20)) (decide_eq k 19)
-
--- no statement has a higher number
-pub past_all : (k : ℕ) → IsStatementNumber k → 21 ≤ k → (k ≡ 21 → ⊥) → ((k ≡ 16) ⊎ (k ≡ 22) → ⊥) → (k ≡ 23 → ⊥) → (k ≡ 24 → ⊥) → ⊥
-past_all k (low, high) l o j p q = omega (arith, high, up 24 k (up 23 k (up 22 k (up 21 k l o) (λ z. j (inr z))) p) q)
 
 -- WHAT A STEP IS, by the kind of its row
 module _ {w : List ℕ} {c : Machine} (room : Room) where

@@ -15,10 +15,7 @@ ghost use Rattle.rules.specs.Machine.{step as step_of};
 use rules::{Kind, Machine, Number};
 use run_heap::{Fault, Stores};
 use run_steps::{Ending, Turn};
-use tables::Layout;
-
-// The first number past those of the kinds.
-const UNKNOWN: u8 = Kind::LAST + 1;
+use tables::{Area, Layout};
 
 // What a run ends with; main's values are in its frame.
 pub type Ran = run_steps::Ran<Fault>;
@@ -50,32 +47,38 @@ pub fn number_of(e: Ending<Fault>) -> u32
 
 // "Each statement line is one step": by the kind of the row, on a heap with these two limits.
 #[tactic(auto, unfolding(rules::specs::Grammar::statement_number))]
-pub fn step(work: &mut [u8], c: Machine, most_objects: u32, most_fields: u32) -> Turn
+pub fn step(work: &mut Area, c: Machine, most_objects: u32, most_fields: u32) -> Turn
     requires { CanStep work.old c × ((most_objects ≤ heap_objects) × (most_fields ≤ heap_fields)) }
     ensures { Does work.old c work.new result (step_of (record { objects = most_objects; fields = most_fields }) (program_in work.old)) }
 {
     let row = c.row as usize;
-    match tables::kind_at(work, row) {
-        Kind::SET => run_steps::set_step(work, c),
-        Kind::LET => run_steps::let_step(work, c),
-        Kind::NEW => run_calls::new_step(work, c, most_objects, most_fields),
-        Kind::CALL => run_calls::call_step(work, c),
-        Kind::RETURN | Kind::END => run_returns::back_step(work, c),
-        Kind::ASSERT | Kind::JOIN => run_steps::assert_step(work, c),
-        Kind::RELEASE => run_steps::release_step(work, c),
-        Kind::IF => run_steps::if_step(work, c),
-        Kind::LOOP => run_steps::loop_step(work, c),
-        Kind::ELSE | Kind::AGAIN => run_steps::jump_step(work, c),
-        Kind::OPEN => run_steps::open_step(work, c),
-        Kind::SHUT => run_steps::shut_step(work, c),
-        Kind::ADD | Kind::SUB => run_steps::compute_step(work, c),
+    match tables::row_kind(work, row) {
+        Kind::Set => run_steps::set_step(work, c),
+        Kind::Let => run_steps::let_step(work, c),
+        Kind::New => run_calls::new_step(work, c, most_objects, most_fields),
+        Kind::Call => run_calls::call_step(work, c),
+        Kind::Return | Kind::End => run_returns::back_step(work, c),
+        Kind::Assert | Kind::Join => run_steps::assert_step(work, c),
+        Kind::Release => run_steps::release_step(work, c),
+        Kind::If => run_steps::if_step(work, c),
+        Kind::Loop => run_steps::loop_step(work, c),
+        Kind::Else | Kind::Again => run_steps::jump_step(work, c),
+        Kind::Open => run_steps::open_step(work, c),
+        Kind::Shut => run_steps::shut_step(work, c),
+        Kind::Add | Kind::Sub => run_steps::compute_step(work, c),
         // No row is of another kind, so that any answer meets the contract.
-        0..=Kind::VAR | UNKNOWN..=u8::MAX => Ok(None),
+        Kind::Class
+        | Kind::Field
+        | Kind::Method
+        | Kind::Requires
+        | Kind::Ensures
+        | Kind::Main
+        | Kind::Var => Ok(None),
     }
 }
 
 // "from the empty heap and main's frame"
-fn begin(work: &mut [u8]) -> Machine
+fn begin(work: &mut Area) -> Machine
     requires { Tables work.old }
     ensures { (result ≡ fresh_machine (main_first work.old)) × (work.new ≡ fill work.old frames_at frame_variables 0) }
 {
@@ -86,7 +89,7 @@ fn begin(work: &mut [u8]) -> Machine
 
 // At most so many steps of the program in the tables, on a heap with these two limits: "A run tests 21 before each step"; "A stopped
 // step is not counted".
-pub fn run(work: &mut [u8], steps: u32, most_objects: u32, most_fields: u32) -> Ran
+pub fn run(work: &mut Area, steps: u32, most_objects: u32, most_fields: u32) -> Ran
     requires { Tables work.old × ((most_objects ≤ heap_objects) × (most_fields ≤ heap_fields)) }
     ensures { RanAs (record { objects = most_objects; fields = most_fields }) work.old steps work.new result }
 {

@@ -44,7 +44,7 @@ use Rattle.run_steps.proofs.Changes.{put-variable}
 use Rattle.run_steps.proofs.Steps.{frame-holding}
 use Rattle.run_steps.proofs.Heaps.{Has}
 use Rattle.run_steps.proofs.Doing.{does-on, does-stop, fits, frames-fit}
-use Rattle.run_calls.proofs.Making.{made-only, made-class, made-first, made-objects, old_value_lem, old-halves, new-value, new-halves}
+use Rattle.run_calls.proofs.Making.{made-only, made-class, made-first, made-objects, old-value, old-halves, new-value, new-halves}
 
 -- FIELDS OF A CLASS
 class-has :
@@ -341,7 +341,7 @@ module _ {w : List ℕ} {c : Machine} {m : Config} (R : Represents w c m) (class
       (λ i f k l e.
       grown-other m.heap cells (suc i) f (omega (arith, l, R.heap.count))
       ∙ (R.heap.value (suc i) f k e
-      ∙ sym (old_value_lem w n c.fields count class c.holder R.tables.size lo lf lh k (cell-small (suc i) f R.tables R.heap.fit e))))
+      ∙ sym (old-value w n c.fields count class c.holder R.tables.size lo lf lh k (cell-small (suc i) f R.tables R.heap.fit e))))
       (λ f k e.
       let (j, l, q, g) = new-cell f k e in
       ap (λ (i : ℕ). value_at (m.heap ++ (cells ∷ [])) i f) (sym heap-next)

@@ -96,9 +96,9 @@ module _ (w : List ℕ) (i k n class holder : ℕ) (size : length w ≡ work_byt
   made-objects = record { class = other-class; first = other-first }
 
   -- ITS CELLS
-  pub old_value_lem : (j : ℕ) → j < k → cell_value (made w i k n class holder) j ≡ cell_value w j
+  pub old-value : (j : ℕ) → j < k → cell_value (made w i k n class holder) j ≡ cell_value w j
   unfolding cell_value
-  old_value_lem j l =
+  old-value j l =
       rw is_made
       (word_kept values_at holders_at u3 u4 (only_kept to-4 values_at holders_at (inl (omega arith))) (values_at + j * 4) (omega arith) (omega arith)
       ∙ (word_kept values_at (values_at + k * 4) u2 u3 (only_kept to-3 values_at (values_at + k * 4) (inl (omega arith))) (values_at + j * 4) (omega arith) (omega arith)

@@ -11,7 +11,7 @@ use rules::Machine;
 use run_footprint::Shares;
 use run_heap::{Fault, Stores, View};
 use run_steps::Turn;
-use tables::Layout;
+use tables::{Area, Layout};
 
 // One step more, in a call that holds by a new number.
 fn call_in(c: Machine, row: u32) -> Machine
@@ -30,7 +30,7 @@ fn call_in(c: Machine, row: u32) -> Machine
 }
 
 // "the new frame's A is the footprint of requires": after it frames full.
-fn enter(work: &mut [u8], c: Machine, v: View, m: usize, shares: &Shares, n: usize) -> Turn
+fn enter(work: &mut Area, c: Machine, v: View, m: usize, shares: &Shares, n: usize) -> Turn
     requires { Entering work.old c v m shares.now n }
     ensures { Enters work.old c m (take n shares.now) work.new result }
 {
@@ -43,7 +43,7 @@ fn enter(work: &mut [u8], c: Machine, v: View, m: usize, shares: &Shares, n: usi
 }
 
 // Requires, over the values in the next frame's place and what the running frame holds.
-fn admit(work: &mut [u8], c: Machine, m: usize) -> Turn
+fn admit(work: &mut Area, c: Machine, m: usize) -> Turn
     requires { Calling work.old c m }
     ensures { Admits work.old c m work.new result }
 {
@@ -61,7 +61,7 @@ fn admit(work: &mut [u8], c: Machine, m: usize) -> Turn
 }
 
 // `call`: "null receiver, then requires, then frames full".
-pub fn call_step(work: &mut [u8], c: Machine) -> Turn
+pub fn call_step(work: &mut Area, c: Machine) -> Turn
     requires { CanStep work.old c × AtKind work.old c Call }
     ensures { Does work.old c work.new result (call_here work.old c) }
 {
@@ -97,7 +97,7 @@ fn grow(c: Machine, n: u32) -> Machine
 }
 
 // `new`: "22 only where `new` would pass 256 objects or 1,024 fields", the heap's two limits.
-pub fn new_step(work: &mut [u8], c: Machine, most_objects: u32, most_fields: u32) -> Turn
+pub fn new_step(work: &mut Area, c: Machine, most_objects: u32, most_fields: u32) -> Turn
     requires { (CanStep work.old c × AtKind work.old c New) × ((most_objects ≤ heap_objects) × (most_fields ≤ heap_fields)) }
     ensures { Does work.old c work.new result (new_here work.old c (record { objects = most_objects; fields = most_fields })) }
 {

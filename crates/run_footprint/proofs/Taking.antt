@@ -2,7 +2,7 @@
 use mathlib.Core.Path.{◌≡◌, refl, sym, ap, ◌∙◌}
 use mathlib.Core.Bool.{Bool, true, false}
 use mathlib.Core.List.{List, [], ◌∷◌, ◌++◌}
-use mathlib.Core.Logic.{⊎_elim}
+use mathlib.Core.Logic.{◌⊎◌, ⊎_elim}
 use Prim.Native.Nat.{ℕ, suc, ◌+◌, ◌-◌, ◌≤◌, ◌<◌}
 use native.Mathlib.Omega.{arith}
 use lib.Dec.{leb}
@@ -15,6 +15,9 @@ use Rattle.rules.specs.Machine.{compared}
 use Rattle.rules.proofs.Lists.{decide_eq}
 use Rattle.tables.specs.Numbers.{chain_atom, eq_atom}
 use Rattle.tables.specs.Layout.{most_names, frame_variables}
+use Rattle.tables.specs.declared.kinds.AtomKind.{AtomKind}
+use Rattle.tables.specs.Kinds.{kind_of, kind_number}
+use Rattle.tables.proofs.AtomKinds.{kind-same}
 use Rattle.tables.specs.Decode.{run, byte_at, expr_at, left_at, right_at, atom_at, atoms_from, atom_place, atom_kind_at, acc_variable_at, acc_field_at, is_permission, permit_of, rel_of}
 use Rattle.tables.specs.Tables.{SideFits, AtomFitsAt}
 use Rattle.run_heap.specs.declared.View.{View}
@@ -164,6 +167,24 @@ pub access-fits :
     (acc_variable_at w a < frame_variables) × (acc_field_at w a < most_names)
 unfolding left_at expr_at SideFits
 access-fits w a F e = let s : atom_place a + 4 + 1 ≡ atom_place a + 5 = omega arith in rw (F.access e, s) at F.left
+
+-- the kind that is read from an atom of the tables is its byte's
+module _ (w : List ℕ) (a : ℕ) (k : AtomKind) (e : k ≡ kind_of (atom_kind_at w a)) (F : AtomFitsAt w a) where
+  pub number-is : kind_number k ≡ atom_kind_at w a
+  number-is = ap kind_number e ∙ kind-same (atom_kind_at w a) F.least F.kind
+
+  pub is-chain : k ≡ AtomKind.Chain → atom_kind_at w a ≡ chain_atom
+  is-chain i = sym number-is ∙ ap kind_number i
+
+  pub is-share : (k ≡ AtomKind.Read) ⊎ (k ≡ AtomKind.Acc) → atom_kind_at w a < chain_atom
+  is-share i =
+      let n = number-is in
+      ⊎_elim (λ i. let m : kind_number k ≡ 1 = ap kind_number i in omega arith) (λ i. let m : kind_number k ≡ 2 = ap kind_number i in omega arith) i
+
+  pub is-compared : (k ≡ AtomKind.Eq) ⊎ (k ≡ AtomKind.Ne) → eq_atom ≤ atom_kind_at w a
+  is-compared i =
+      let n = number-is in
+      ⊎_elim (λ i. let m : kind_number k ≡ 4 = ap kind_number i in omega arith) (λ i. let m : kind_number k ≡ 5 = ap kind_number i in omega arith) i
 
 -- an `acc` or a `read`, the atom a, as the code reads it
 module _

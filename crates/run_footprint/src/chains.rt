@@ -1,17 +1,17 @@
 // W9: what a formula takes by chains. A chain's cells are not listed: whoever asks for them walks again.
-ghost use Rattle.std.specs.Prelude.{◌≡◌, ◌&&◌, [], ◌∷◌, ◌≤◌, ◌<◌, eqb, length, take};
+ghost use Rattle.std.specs.Prelude.{◌≡◌, ◌&&◌, [], ◌∷◌, ◌≤◌, ◌<◌, eqb, take};
 ghost use Rattle.rules.specs.Base.{any};
 ghost use Rattle.tables.specs.Numbers.{chain_atom};
 ghost use Rattle.tables.specs.Layout.{most_names};
 ghost use Rattle.tables.specs.Decode.{atom_count, atom_at, atom_kind_at};
 ghost use Rattle.run_heap.specs.Views.{whole, Readable};
 ghost use Rattle.run_heap.specs.Chains.{cells_by};
-ghost use Rattle.run_footprint.specs.Footprints.{is_chain, start_in, field_in, chain_part, ends_by, new_chain, chain_marked, take_in, footprint_shares, sieve_bytes, AllSeen, TookOne, RoomAfter};
+ghost use Rattle.run_footprint.specs.Footprints.{is_chain, start_in, field_in, chain_part, ends_by, new_chain, chain_marked, take_in, footprint_shares, AllSeen, TookOne, RoomAfter};
 
 use crate::walks::{one_of, walk_after};
 use crate::{SHARE, SIEVE, Shares};
 use run_heap::{Fault, Stores, View};
-use tables::{AtomKind, Layout};
+use tables::{Area, AtomKind, Layout};
 
 // So many values have the objects' numbers.
 const WORDS: usize = 4294967296;
@@ -20,7 +20,7 @@ const WORDS: usize = 4294967296;
 pub fn is_chain(s: usize) -> bool
     ensures { result ≡ is_chain s }
 {
-    s % SHARE == AtomKind::CHAIN
+    s % SHARE == AtomKind::Chain as usize
 }
 
 // The object from which it goes.
@@ -38,7 +38,7 @@ fn field_of(s: usize) -> usize
 }
 
 // Whether the cells by f from the object o have the cell k among them.
-fn passes(work: &[u8], v: View, f: usize, o: u32, k: usize) -> bool
+fn passes(work: &Area, v: View, f: usize, o: u32, k: usize) -> bool
     requires { Readable work.now v × (f < most_names) }
     ensures { result ≡ any (eqb k) (cells_by work.now v.objects f v.objects o) }
 {
@@ -56,7 +56,7 @@ fn passes(work: &[u8], v: View, f: usize, o: u32, k: usize) -> bool
 }
 
 // How many halves of the cell k, which is of a field f, the chain s takes: one by another field has none of its cells.
-pub fn chain_part(work: &[u8], v: View, f: usize, s: usize, k: usize) -> usize
+pub fn chain_part(work: &Area, v: View, f: usize, s: usize, k: usize) -> usize
     requires { Readable work.now v × (f < most_names) }
     ensures { (result ≡ chain_part work.now v.objects f k s) × (result ≤ whole) }
 {
@@ -80,7 +80,7 @@ fn chain_by(s: usize, f: usize) -> bool
 }
 
 // Whether it is one whose last object is `last`.
-fn ends_by(work: &[u8], v: View, f: usize, s: usize, last: u32) -> bool
+fn ends_by(work: &Area, v: View, f: usize, s: usize, last: u32) -> bool
     requires { Readable work.now v × (f < most_names) }
     ensures { result ≡ ends_by work.now v f last s }
 {
@@ -94,8 +94,8 @@ fn ends_by(work: &[u8], v: View, f: usize, s: usize, last: u32) -> bool
 }
 
 // Whether one of the first n shares is.
-fn ends_at(work: &[u8], v: View, f: usize, shares: &Shares, n: usize, last: u32) -> bool
-    requires { (Readable work.now v × (f < most_names)) × ((n ≤ footprint_shares) × (length shares.now ≡ footprint_shares)) }
+fn ends_at(work: &Area, v: View, f: usize, shares: &Shares, n: usize, last: u32) -> bool
+    requires { (Readable work.now v × (f < most_names)) × (n ≤ footprint_shares) }
     ensures { result ≡ any (ends_by work.now v f last) (take n shares.now) }
 {
     one_of(shares, n, |s| ends_by(work, v, f, s, last))
@@ -103,7 +103,6 @@ fn ends_at(work: &[u8], v: View, f: usize, shares: &Shares, n: usize, last: u32)
 
 // Every remainder has been seen.
 fn fill_seen(seen: &mut [u8; SIEVE])
-    requires { length seen.old ≡ sieve_bytes }
     ensures { AllSeen seen.new }
 {
     *seen = [1; SIEVE];
@@ -111,7 +110,7 @@ fn fill_seen(seen: &mut [u8; SIEVE])
 
 // Takes the chain s, whose walk came to null from the object `last`, after n shares.
 fn put_chain(
-    work: &[u8],
+    work: &Area,
     v: View,
     shares: &mut Shares,
     seen: &mut [u8; SIEVE],
@@ -132,7 +131,7 @@ fn put_chain(
 
 // `chain x f`, the atom a, after n shares. That of null takes nothing.
 pub fn take_chain(
-    work: &[u8],
+    work: &Area,
     v: View,
     a: usize,
     shares: &mut Shares,
@@ -149,13 +148,13 @@ pub fn take_chain(
     if o == 0 {
         return Ok(n);
     }
-    let s = (o as usize * Layout::FIELD_NAMES + f) * SHARE + AtomKind::CHAIN;
+    let s = (o as usize * Layout::FIELD_NAMES + f) * SHARE + AtomKind::Chain as usize;
     let last = walk_after(work, v, f, o, shares, seen, n)?;
     put_chain(work, v, shares, seen, n, s, last)
 }
 
 // The cells of the chain s go from the view's number to another.
-pub fn mark_chain(work: &mut [u8], v: View, s: usize, to: u32)
+pub fn mark_chain(work: &mut Area, v: View, s: usize, to: u32)
     requires { Readable work.old v }
     ensures { work.new ≡ chain_marked work.old v.objects (field_in s) v.objects (start_in s) v.holder to }
 {

@@ -1,5 +1,5 @@
 // W9: the walk of a chain, beside the shares that a formula has taken already.
-ghost use Rattle.std.specs.Prelude.{◌≡◌, ℕ, suc, ◌≤◌, ◌<◌, Bool, length, take};
+ghost use Rattle.std.specs.Prelude.{◌≡◌, ℕ, suc, ◌≤◌, ◌<◌, Bool, take};
 ghost use Rattle.rules.specs.Base.{any};
 ghost use Rattle.tables.specs.Layout.{most_names};
 ghost use Rattle.run_heap.specs.Views.{Readable, answered};
@@ -9,6 +9,7 @@ ghost use Rattle.run_footprint.specs.Footprints.{share_at, free_of, footprint_sh
 use crate::chains::is_chain;
 use crate::{SHARE, SIEVE, Shares};
 use run_heap::{Fault, View};
+use tables::Area;
 
 // Whether a share is of the cell k.
 fn share_at(s: usize, k: usize) -> bool
@@ -22,7 +23,7 @@ fn share_at(s: usize, k: usize) -> bool
 
 // Whether one of the first n shares passes a test.
 pub fn one_of<F: Fn(usize) -> bool>(shares: &Shares, n: usize, passes: F) -> bool
-    requires { ((n ≤ footprint_shares) × (length shares.now ≡ footprint_shares)) × F.IsAlwaysCallable passes }
+    requires { (n ≤ footprint_shares) × F.IsAlwaysCallable passes }
     ensures { (test : ℕ → Bool) → Answers (F.post passes) test → result ≡ any test (take n shares.now) }
 {
     for i in 0..n {
@@ -35,7 +36,7 @@ pub fn one_of<F: Fn(usize) -> bool>(shares: &Shares, n: usize, passes: F) -> boo
 
 // Whether one of the first n shares is.
 fn shared(shares: &Shares, n: usize, k: usize) -> bool
-    requires { (n ≤ footprint_shares) × (length shares.now ≡ footprint_shares) }
+    requires { n ≤ footprint_shares }
     ensures { result ≡ any (share_at k) (take n shares.now) }
 {
     one_of(shares, n, |s| share_at(s, k))
@@ -56,7 +57,7 @@ fn seen_shared(shares: &Shares, seen: &[u8; SIEVE], n: usize, k: usize) -> bool
 
 // The walk of a chain beside n shares: "24 at one .. taken by an earlier atom". Where there are none, they need not be asked at each object.
 pub fn walk_after(
-    work: &[u8],
+    work: &Area,
     v: View,
     f: usize,
     o: u32,

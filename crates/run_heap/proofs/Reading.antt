@@ -5,18 +5,16 @@ use borrow.Author.Tests.{eqb-false}
 use Rattle.rules.specs.Limits.{heap_fields}
 use Rattle.rules.specs.Base.{Try, ok, no, ◌>>=◌, ◌>>◌, check}
 use Rattle.rules.specs.Answers.{Stop, permission_missing, null_followed}
-use Rattle.rules.specs.Syntax.{Expr}
 use Rattle.rules.proofs.Lists.{some_inj, none-some, T_true, and_both}
 use Rattle.rules.proofs.Tries.{check-ok, ok-inj}
 use Rattle.tables.specs.declared.Expr as Tables
 use Rattle.tables.specs.Layout.{most_names}
 use Rattle.tables.specs.Decode.{field_count_at, field_name_at}
 use Rattle.tables.specs.Tables.{Tables, ClassFits, place_at}
-use Rattle.tables.specs.Stores.{meaning}
 use Rattle.run_heap.specs.declared.View.{View}
 use Rattle.run_heap.specs.declared.Fault.{Fault}
 use Rattle.std.specs.Prelude.{Result, Ok, Err, IsErrAnd}
-use Rattle.run_heap.specs.Views.{variable_at, halves_at, class_in, first_in, placed, cell_of, present, found_of, found, held_cell, spot, read_in, stop_of, answered, ObjectFits, PlainIs, Readable}
+use Rattle.run_heap.specs.Views.{variable_at, halves_at, class_in, first_in, placed, cell_of, present, found_of, found, held_cell, spot, stop_of, answered, ObjectFits, Readable}
 
 -- ANSWERS BY CASES
 pub answered-ok : {A : Type 0} (r : Result A Fault) (k : A) {t : Try Stop A} → r ≡ Ok k → answered r ≡ t → t ≡ ok k
@@ -155,22 +153,12 @@ spot-found w v n x f k e = go (found w v x f) e
         let q : j ≡ k = ok-inj e' in
         (ap ok q, subst (λ i. n ≤ halves_at w v.holder i) q (leb→le _ _ t))
 
-pub spot_is_lem :
+pub spot-is :
     (w : List ℕ) (v : View) (n x f k : ℕ) → spot w v n x f ≡ ok k →
     (cell_of w v.objects (variable_at w v.base x) f ≡ some k) × (n ≤ halves_at w v.holder k)
 unfolding found
-spot_is_lem w v n x f k e =
+spot-is w v n x f k e =
     let (a, b) = spot-found w v n x f k e in (found-is w v.objects (variable_at w v.base x) f k a, b)
 
 pub spot-small : {w : List ℕ} {v : View} {k : ℕ} (n x f : ℕ) → Readable w v → spot w v n x f ≡ ok k → k < heap_fields
 spot-small {w} {v} {k} n x f r e = found-small x f r (spot-found w v n x f k e).0
-
--- SIDES
-pub plain-read :
-    (w : List ℕ) (v : View) (e : Tables.Expr) (r : ℕ) → PlainIs w v e r → ((x f : ℕ) → e ≡ Tables.Expr.Path x f → ⊥) →
-    ok r ≡ read_in w v (meaning e)
-unfolding read_in meaning
-plain-read w v (Tables.Expr.Num n) r p k = ap ok p
-plain-read w v Tables.Expr.Null r p k = ap ok p
-plain-read w v (Tables.Expr.Var x) r p k = ap ok p
-plain-read w v (Tables.Expr.Path x f) r p k = absurd (k x f refl)

@@ -7,7 +7,7 @@ ghost use Rattle.run_heap.specs.Chains.{Caches, Answers, whole_cell, walk_in, wa
 use crate::holders::held_cell;
 use crate::{Fault, Stores, View, cell_at, cell_value, class_of, first_of};
 use rules::Machine;
-use tables::ClassAt;
+use tables::{Area, ClassAt};
 
 // An inline cache: the place of one field in the class of which most objects of a walk are.
 #[derive(Clone, Copy)]
@@ -20,7 +20,7 @@ pub struct Cache {
 const NO_CLASS: usize = Machine::CLASSES;
 
 // A cache for the class of object i + 1.
-fn cache_at(work: &[u8], v: View, f: usize, i: usize) -> Cache
+fn cache_at(work: &Area, v: View, f: usize, i: usize) -> Cache
     requires { Readable work.now v × ((i < v.objects) × (f < most_names)) }
     ensures { Caches work.now f result }
 {
@@ -36,7 +36,7 @@ fn cache_at(work: &[u8], v: View, f: usize, i: usize) -> Cache
 }
 
 // A cache for the walk by f from the object o: mostly its objects are all of one class.
-pub fn cache_of(work: &[u8], v: View, f: usize, o: u32) -> Cache
+pub fn cache_of(work: &Area, v: View, f: usize, o: u32) -> Cache
     requires { Readable work.now v × (f < most_names) }
     ensures { Caches work.now f result }
 {
@@ -51,7 +51,7 @@ pub fn cache_of(work: &[u8], v: View, f: usize, o: u32) -> Cache
 }
 
 // The cell of the field of object i + 1, by the cache where that is of its class.
-fn cell_in(work: &[u8], v: View, c: Cache, i: usize, f: usize) -> Result<usize, Fault>
+fn cell_in(work: &Area, v: View, c: Cache, i: usize, f: usize) -> Result<usize, Fault>
     requires { (Readable work.now v × Caches work.now f c) × ((i < v.objects) × (f < most_names)) }
     ensures { answered result ≡ present (cell_of work.now v.objects (suc i) f) }
 {
@@ -63,7 +63,7 @@ fn cell_in(work: &[u8], v: View, c: Cache, i: usize, f: usize) -> Result<usize, 
 }
 
 // `cell_of` with a cache. One comparison tells null and numbers that no object has from the others: a walk waits for it at every object.
-pub fn cell_by(work: &[u8], v: View, c: Cache, o: u32, f: usize) -> Result<usize, Fault>
+pub fn cell_by(work: &Area, v: View, c: Cache, o: u32, f: usize) -> Result<usize, Fault>
     requires { (Readable work.now v × Caches work.now f c) × (f < most_names) }
     ensures { answered result ≡ found_of work.now v.objects o f }
 {
@@ -78,7 +78,7 @@ pub fn cell_by(work: &[u8], v: View, c: Cache, o: u32, f: usize) -> Result<usize
 }
 
 // The cell of a field of the object o, which the view's number must hold whole.
-pub fn whole_by(work: &[u8], v: View, c: Cache, f: usize, o: u32) -> Result<usize, Fault>
+pub fn whole_by(work: &Area, v: View, c: Cache, f: usize, o: u32) -> Result<usize, Fault>
     requires { (Readable work.now v × Caches work.now f c) × (f < most_names) }
     ensures { answered result ≡ whole_cell work.now v f o }
 {
@@ -87,6 +87,7 @@ pub fn whole_by(work: &[u8], v: View, c: Cache, f: usize, o: u32) -> Result<usiz
 }
 
 // A walk that does not pass the object o, after `last`: at null it is done.
+#[tactic(auto, unfolding(crate::specs::Views::answered, crate::specs::Chains::walk_end, crate::specs::Views::stop_of))]
 pub fn walk_end(o: u32, last: u32) -> Result<u32, Fault>
     ensures { answered result ≡ walk_end o last }
 {
@@ -99,7 +100,7 @@ pub fn walk_end(o: u32, last: u32) -> Result<u32, Fault>
 // "going by f from x reaches null and every location passed is held whole", x the object o, and free: the last object, 0 where o is null. "The walk
 // stops with 26 at a location that it has passed itself (a ring)": that passes more locations than there are objects.
 pub fn walk_by<F: Fn(usize) -> bool>(
-    work: &[u8],
+    work: &Area,
     v: View,
     f: usize,
     o: u32,
@@ -125,7 +126,7 @@ pub fn walk_by<F: Fn(usize) -> bool>(
 }
 
 // The same where every location is free.
-pub fn walk(work: &[u8], v: View, f: usize, o: u32) -> Result<u32, Fault>
+pub fn walk(work: &Area, v: View, f: usize, o: u32) -> Result<u32, Fault>
     requires { Readable work.now v × (f < most_names) }
     ensures { answered result ≡ walk_in work.now v (λ _. true) f (suc v.objects) o 0 }
 {

@@ -1,25 +1,27 @@
 // Who holds the cells. Each has two words side by side: for each half the number of the frame that has it, 0 for nobody.
-ghost use Rattle.std.specs.Prelude.{◌≡◌, ◌<◌, length, ◌==◌, nat_le};
-ghost use Rattle.rules.specs.Limits.{work_bytes, heap_fields};
+ghost use Rattle.std.specs.Prelude.{◌≡◌, ◌<◌, ◌==◌, nat_le};
+ghost use Rattle.rules.specs.Limits.{heap_fields};
 ghost use Rattle.run_heap.specs.Views.{first_holder, second_holder, one, halves_at, Halves, held_cell, whole, whole_put, half_put, handed, answered};
 
 use crate::{Fault, Stores};
-use tables::Layout;
+use tables::{Area, Layout};
 
 // Both holders as one number: what the second counts, and what the number that holds both does.
 const SECOND: u64 = 4294967296;
 
 const BOTH: u64 = SECOND + 1;
 
-fn first_holder(work: &[u8], k: usize) -> u32
-    requires { (length work.now ≡ work_bytes) × (k < heap_fields) }
+#[tactic(auto, unfolding(crate::specs::Views::first_holder))]
+fn first_holder(work: &Area, k: usize) -> u32
+    requires { k < heap_fields }
     ensures { result ≡ first_holder work.now k }
 {
     tables::word_at(work, Layout::HOLDERS + k * Stores::HOLDER_BYTES)
 }
 
-fn second_holder(work: &[u8], k: usize) -> u32
-    requires { (length work.now ≡ work_bytes) × (k < heap_fields) }
+#[tactic(auto, unfolding(crate::specs::Views::second_holder))]
+fn second_holder(work: &Area, k: usize) -> u32
+    requires { k < heap_fields }
     ensures { result ≡ second_holder work.now k }
 {
     tables::word_at(
@@ -29,8 +31,8 @@ fn second_holder(work: &[u8], k: usize) -> u32
 }
 
 // Whether h holds both halves of the cell k, by one comparison.
-fn holds_whole(work: &[u8], h: u32, k: usize) -> bool
-    requires { (length work.now ≡ work_bytes) × (k < heap_fields) }
+fn holds_whole(work: &Area, h: u32, k: usize) -> bool
+    requires { k < heap_fields }
     ensures { result ≡ nat_le whole (halves_at work.now h k) }
 {
     let a = first_holder(work, k);
@@ -42,8 +44,8 @@ fn holds_whole(work: &[u8], h: u32, k: usize) -> bool
 }
 
 // Whether h holds one of them.
-fn holds_half(work: &[u8], h: u32, k: usize) -> bool
-    requires { (length work.now ≡ work_bytes) × (k < heap_fields) }
+fn holds_half(work: &Area, h: u32, k: usize) -> bool
+    requires { k < heap_fields }
     ensures { result ≡ nat_le 1 (halves_at work.now h k) }
 {
     if first_holder(work, k) == h {
@@ -56,8 +58,8 @@ fn holds_half(work: &[u8], h: u32, k: usize) -> bool
 }
 
 // Whether h holds n halves of it.
-fn holds(work: &[u8], h: u32, n: usize, k: usize) -> bool
-    requires { ((length work.now ≡ work_bytes) × (k < heap_fields)) × Halves n }
+fn holds(work: &Area, h: u32, n: usize, k: usize) -> bool
+    requires { (k < heap_fields) × Halves n }
     ensures { result ≡ nat_le n (halves_at work.now h k) }
 {
     if n == Stores::WHOLE {
@@ -67,8 +69,8 @@ fn holds(work: &[u8], h: u32, n: usize, k: usize) -> bool
 }
 
 // The cell, if h holds n halves of it.
-pub fn held_cell(work: &[u8], h: u32, n: usize, k: usize) -> Result<usize, Fault>
-    requires { ((length work.now ≡ work_bytes) × (k < heap_fields)) × Halves n }
+pub fn held_cell(work: &Area, h: u32, n: usize, k: usize) -> Result<usize, Fault>
+    requires { (k < heap_fields) × Halves n }
     ensures { answered result ≡ held_cell work.now h n k }
 {
     if holds(work, h, n, k) {
@@ -77,6 +79,7 @@ pub fn held_cell(work: &[u8], h: u32, n: usize, k: usize) -> Result<usize, Fault
     Err(Fault::Permission)
 }
 
+#[tactic(auto, unfolding(crate::specs::Views::one))]
 fn one_if(a: u32, h: u32) -> usize
     ensures { (result ≡ one (a == h)) × (result < 2) }
 {
@@ -87,15 +90,17 @@ fn one_if(a: u32, h: u32) -> usize
 }
 
 // How many halves of the cell k are with h.
-pub fn halves_held(work: &[u8], h: u32, k: usize) -> usize
-    requires { (length work.now ≡ work_bytes) × (k < heap_fields) }
+#[tactic(auto, unfolding(crate::specs::Views::halves_at))]
+pub fn halves_held(work: &Area, h: u32, k: usize) -> usize
+    requires { k < heap_fields }
     ensures { result ≡ halves_at work.now h k }
 {
     one_if(first_holder(work, k), h) + one_if(second_holder(work, k), h)
 }
 
-fn put_whole(work: &mut [u8], k: usize, h: u32)
-    requires { (length work.old ≡ work_bytes) × (k < heap_fields) }
+#[tactic(auto, unfolding(crate::specs::Views::whole_put))]
+fn put_whole(work: &mut Area, k: usize, h: u32)
+    requires { k < heap_fields }
     ensures { work.new ≡ whole_put work.old k h }
 {
     let at = Layout::HOLDERS + k * Stores::HOLDER_BYTES;
@@ -104,8 +109,9 @@ fn put_whole(work: &mut [u8], k: usize, h: u32)
 }
 
 // The first half that is with a number goes to another.
-fn put_half(work: &mut [u8], k: usize, from: u32, to: u32)
-    requires { (length work.old ≡ work_bytes) × (k < heap_fields) }
+#[tactic(auto, unfolding(crate::specs::Views::half_put))]
+fn put_half(work: &mut Area, k: usize, from: u32, to: u32)
+    requires { k < heap_fields }
     ensures { work.new ≡ half_put work.old k from to }
 {
     let at = Layout::HOLDERS + k * Stores::HOLDER_BYTES;
@@ -117,8 +123,9 @@ fn put_half(work: &mut [u8], k: usize, from: u32, to: u32)
 }
 
 // Hands n halves of the cell k over, from the number that holds them to another.
-pub fn hand_over(work: &mut [u8], k: usize, n: usize, from: u32, to: u32)
-    requires { (length work.old ≡ work_bytes) × (k < heap_fields) }
+#[tactic(auto, unfolding(crate::specs::Views::handed))]
+pub fn hand_over(work: &mut Area, k: usize, n: usize, from: u32, to: u32)
+    requires { k < heap_fields }
     ensures { work.new ≡ handed work.old k n from to }
 {
     if n < Stores::WHOLE {

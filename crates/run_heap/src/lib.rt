@@ -6,7 +6,7 @@ mod holders;
 mod strides;
 
 ghost use Rattle.std.specs.Prelude.{◌≡◌, suc, ◌+◌, ◌-◌, ◌*◌, ◌<◌, ◌≤◌, length};
-ghost use Rattle.rules.specs.Limits.{work_bytes, most_statements, most_methods, most_classes, most_frames, heap_objects, heap_fields};
+ghost use Rattle.rules.specs.Limits.{most_statements, most_methods, most_classes, most_frames, heap_objects, heap_fields};
 ghost use Rattle.tables.specs.Numbers.{half_values};
 ghost use Rattle.tables.specs.Layout.{most_names, frame_variables};
 ghost use Rattle.tables.specs.Decode.{left_at, right_at, atom_count};
@@ -19,7 +19,7 @@ use holders::held_cell;
 pub use holders::{halves_held, hand_over};
 use rules::Machine;
 pub use strides::walk_strided;
-use tables::{ClassAt, Expr, Layout};
+use tables::{Area, ClassAt, Expr, Layout};
 
 // Whose variables are read, where the heap ends, and who holds.
 #[derive(Clone, Copy)]
@@ -77,7 +77,8 @@ pub enum Fault {
 }
 
 // A variable of the frame at b.
-pub fn variable(work: &[u8], b: usize, x: usize) -> u32
+#[tactic(auto, unfolding(crate::specs::Views::variable_at))]
+pub fn variable(work: &Area, b: usize, x: usize) -> u32
     requires { (b + frame_holder ≤ length work.now) × (x < frame_variables) }
     ensures { result ≡ variable_at work.now b x }
 {
@@ -85,24 +86,27 @@ pub fn variable(work: &[u8], b: usize, x: usize) -> u32
 }
 
 // The value of the cell k.
-pub fn cell_value(work: &[u8], k: usize) -> u32
-    requires { (length work.now ≡ work_bytes) × (k < heap_fields) }
+#[tactic(auto, unfolding(crate::specs::Views::cell_value))]
+pub fn cell_value(work: &Area, k: usize) -> u32
+    requires { k < heap_fields }
     ensures { result ≡ cell_value work.now k }
 {
     tables::word_at(work, Layout::VALUES + k * Stores::WORD_BYTES)
 }
 
 // The class of object i + 1.
-fn class_of(work: &[u8], i: usize) -> usize
-    requires { (length work.now ≡ work_bytes) × (i < heap_objects) }
+#[tactic(auto, unfolding(crate::specs::Views::class_in))]
+fn class_of(work: &Area, i: usize) -> usize
+    requires { i < heap_objects }
     ensures { result ≡ class_in work.now i }
 {
     tables::byte_at(work, Layout::OBJECTS + i * Layout::OBJECT_BYTES)
 }
 
 // Its first cell.
-fn first_of(work: &[u8], i: usize) -> usize
-    requires { (length work.now ≡ work_bytes) × (i < heap_objects) }
+#[tactic(auto, unfolding(crate::specs::Views::first_in))]
+fn first_of(work: &Area, i: usize) -> usize
+    requires { i < heap_objects }
     ensures { (result ≡ first_in work.now i) × (result < half_values) }
 {
     tables::half_at(
@@ -112,7 +116,7 @@ fn first_of(work: &[u8], i: usize) -> usize
 }
 
 // The cell of the field named f of object i + 1.
-fn cell_at(work: &[u8], v: View, i: usize, f: usize) -> Result<usize, Fault>
+fn cell_at(work: &Area, v: View, i: usize, f: usize) -> Result<usize, Fault>
     requires { Readable work.now v × ((i < v.objects) × (f < most_names)) }
     ensures { answered result ≡ present (cell_of work.now v.objects (suc i) f) }
 {
@@ -126,7 +130,7 @@ fn cell_at(work: &[u8], v: View, i: usize, f: usize) -> Result<usize, Fault>
 }
 
 // The cell of a field of the object o.
-pub fn cell_of(work: &[u8], v: View, o: u32, f: usize) -> Result<usize, Fault>
+pub fn cell_of(work: &Area, v: View, o: u32, f: usize) -> Result<usize, Fault>
     requires { Readable work.now v × (f < most_names) }
     ensures { answered result ≡ found_of work.now v.objects o f }
 {
@@ -141,7 +145,8 @@ pub fn cell_of(work: &[u8], v: View, o: u32, f: usize) -> Result<usize, Fault>
 }
 
 // The cell of `x.f`, whoever holds it.
-pub fn find(work: &[u8], v: View, x: usize, f: usize) -> Result<usize, Fault>
+#[tactic(auto, unfolding(crate::specs::Views::found))]
+pub fn find(work: &Area, v: View, x: usize, f: usize) -> Result<usize, Fault>
     requires { Readable work.now v × ((x < frame_variables) × (f < most_names)) }
     ensures { answered result ≡ found work.now v x f }
 {
@@ -150,7 +155,7 @@ pub fn find(work: &[u8], v: View, x: usize, f: usize) -> Result<usize, Fault>
 }
 
 // The cell of `x.f`, of which the view's number must hold n halves: "of a null is 25, of a location not in A .. 24".
-pub fn locate(work: &[u8], v: View, n: usize, x: usize, f: usize) -> Result<usize, Fault>
+pub fn locate(work: &Area, v: View, n: usize, x: usize, f: usize) -> Result<usize, Fault>
     requires { (Readable work.now v × Halves n) × ((x < frame_variables) × (f < most_names)) }
     ensures { answered result ≡ spot work.now v n x f }
 {
@@ -159,7 +164,8 @@ pub fn locate(work: &[u8], v: View, n: usize, x: usize, f: usize) -> Result<usiz
 }
 
 // The value of an expression that is no path.
-fn plain(work: &[u8], v: View, e: Expr) -> u32
+#[tactic(auto, unfolding(tables::specs::Tables::SideFits, tables::specs::Stores::meaning))]
+fn plain(work: &Area, v: View, e: Expr) -> u32
     requires { Readable work.now v × SideFits (meaning e) }
     ensures { PlainIs work.now v e result }
 {
@@ -172,7 +178,8 @@ fn plain(work: &[u8], v: View, e: Expr) -> u32
 }
 
 // "reading a path needs its location in A"; W8: "Reading needs one half"
-fn value(work: &[u8], v: View, e: Expr) -> Result<u32, Fault>
+#[tactic(auto, unfolding(crate::specs::Views::answered, tables::specs::Tables::SideFits, tables::specs::Stores::meaning, crate::specs::Views::read_in))]
+fn value(work: &Area, v: View, e: Expr) -> Result<u32, Fault>
     requires { Readable work.now v × SideFits (meaning e) }
     ensures { answered result ≡ read_in work.now v (meaning e) }
 {
@@ -184,7 +191,7 @@ fn value(work: &[u8], v: View, e: Expr) -> Result<u32, Fault>
 }
 
 // The value of the left side of the atom a.
-pub fn left(work: &[u8], v: View, a: usize) -> Result<u32, Fault>
+pub fn left(work: &Area, v: View, a: usize) -> Result<u32, Fault>
     requires { Readable work.now v × (a < atom_count work.now) }
     ensures { answered result ≡ read_in work.now v (left_at work.now a) }
 {
@@ -192,7 +199,7 @@ pub fn left(work: &[u8], v: View, a: usize) -> Result<u32, Fault>
 }
 
 // The value of its right side.
-pub fn right(work: &[u8], v: View, a: usize) -> Result<u32, Fault>
+pub fn right(work: &Area, v: View, a: usize) -> Result<u32, Fault>
     requires { Readable work.now v × (a < atom_count work.now) }
     ensures { answered result ≡ read_in work.now v (right_at work.now a) }
 {
@@ -200,7 +207,7 @@ pub fn right(work: &[u8], v: View, a: usize) -> Result<u32, Fault>
 }
 
 // n words v from the byte `at` on.
-pub fn fill_words(work: &mut [u8], at: usize, n: usize, v: u32)
+pub fn fill_words(work: &mut Area, at: usize, n: usize, v: u32)
     requires { at + n * word_size ≤ length work.old }
     ensures { work.new ≡ fill work.old at n v }
 {
@@ -222,18 +229,18 @@ pub fn view_of(c: Machine) -> View
     }
 }
 
-pub fn saved_holder(work: &[u8], i: usize) -> u32
-    requires { (length work.now ≡ work_bytes) × (i < most_frames) }
+#[tactic(auto, unfolding(crate::specs::Views::saved_holder))]
+pub fn saved_holder(work: &Area, i: usize) -> u32
+    requires { i < most_frames }
     ensures { result ≡ saved_holder work.now i }
 {
-    tables::word_at(
-        work,
-        Layout::FRAMES + i * Layout::FRAME_BYTES + Stores::HOLDER_AT,
-    )
+    let at = Layout::FRAMES + i * Layout::FRAME_BYTES;
+    tables::word_at(work, at + Stores::HOLDER_AT)
 }
 
-pub fn saved_row(work: &[u8], i: usize) -> usize
-    requires { (length work.now ≡ work_bytes) × (i < most_frames) }
+#[tactic(auto, unfolding(crate::specs::Views::saved_row))]
+pub fn saved_row(work: &Area, i: usize) -> usize
+    requires { i < most_frames }
     ensures { (result ≡ saved_row work.now i) × (result < half_values) }
 {
     tables::half_at(
@@ -242,8 +249,9 @@ pub fn saved_row(work: &[u8], i: usize) -> usize
     )
 }
 
-pub fn method_of(work: &[u8], i: usize) -> usize
-    requires { (length work.now ≡ work_bytes) × (i < most_frames) }
+#[tactic(auto, unfolding(crate::specs::Views::method_of))]
+pub fn method_of(work: &Area, i: usize) -> usize
+    requires { i < most_frames }
     ensures { result ≡ method_of work.now i }
 {
     tables::byte_at(
@@ -253,8 +261,9 @@ pub fn method_of(work: &[u8], i: usize) -> usize
 }
 
 // The place of the next frame, and what the running one must keep.
-pub fn prepare(work: &mut [u8], c: Machine, m: usize, o: u32, p: u32)
-    requires { (length work.old ≡ work_bytes) × (((1 ≤ c.frames) × (c.frames ≤ most_frames)) × ((c.row < most_statements) × (m < most_methods))) }
+#[tactic(auto, unfolding(crate::specs::Views::frame_put))]
+pub fn prepare(work: &mut Area, c: Machine, m: usize, o: u32, p: u32)
+    requires { ((1 ≤ c.frames) × (c.frames ≤ most_frames)) × ((c.row < most_statements) × (m < most_methods)) }
     ensures { work.new ≡ prepared work.old c m o p }
 {
     let i = (c.frames - 1) as usize;
@@ -270,8 +279,9 @@ pub fn prepare(work: &mut [u8], c: Machine, m: usize, o: u32, p: u32)
 }
 
 // Object number `objects` + 1, of a class with n fields, which are the running frame's, both halves.
-pub fn make_object(work: &mut [u8], c: Machine, class: usize, n: usize)
-    requires { (length work.old ≡ work_bytes) × (((c.objects < heap_objects) × (c.fields + n ≤ heap_fields)) × (class < most_classes)) }
+#[tactic(auto, unfolding(crate::specs::Views::made))]
+pub fn make_object(work: &mut Area, c: Machine, class: usize, n: usize)
+    requires { ((c.objects < heap_objects) × (c.fields + n ≤ heap_fields)) × (class < most_classes) }
     ensures { work.new ≡ made work.old c.objects c.fields n class c.holder }
 {
     let i = c.objects as usize;

@@ -7,6 +7,7 @@ ghost use Rattle.run_heap.specs.Chains.{Caches, walk_in, Reaches};
 
 use crate::chains::{cache_of, walk_end, whole_by};
 use crate::{Cache, Fault, View, cell_value};
+use tables::Area;
 
 // Where a walk is: the next object, the last one passed, and how many were.
 #[derive(Clone, Copy)]
@@ -17,7 +18,7 @@ pub struct Reached {
 }
 
 // On, and on again as long as the next object is the one d before.
-fn stride(work: &[u8], v: View, c: Cache, f: usize, from: Reached, d: u32) -> Reached
+fn stride(work: &Area, v: View, c: Cache, f: usize, from: Reached, d: u32) -> Reached
     requires { (Readable work.now v × Caches work.now f c) × (f < most_names) }
     ensures { Reaches work.now v f from result }
 {
@@ -55,7 +56,7 @@ fn stride(work: &[u8], v: View, c: Cache, f: usize, from: Reached, d: u32) -> Re
 }
 
 // `walk`, in strides.
-pub fn walk_strided(work: &[u8], v: View, f: usize, o: u32) -> Result<u32, Fault>
+pub fn walk_strided(work: &Area, v: View, f: usize, o: u32) -> Result<u32, Fault>
     requires { Readable work.now v × (f < most_names) }
     ensures { answered result ≡ walk_in work.now v (λ _. true) f (suc v.objects) o 0 }
 {

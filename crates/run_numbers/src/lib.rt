@@ -2,6 +2,7 @@
 #![tactic(auto)]
 
 ghost use Rattle.std.specs.Prelude.{◌≡◌, ◌<◌};
+ghost use Rattle.rules.specs.Numbered.{number};
 ghost use Rattle.rules.specs.Syntax.{sum, difference, words, offset};
 ghost use Rattle.rules.specs.Machine.{in_range, computed};
 ghost use Rattle.tables.specs.Decode.{operation_of};
@@ -15,12 +16,14 @@ const WORDS: u64 = 4294967296;
 const SIGN: u64 = 2147483648;
 
 // A number by its 32 bits, plus 2^31.
+#[tactic(auto, unfolding(rules::specs::Syntax::offset))]
 fn offset(v: u32) -> u64
     ensures { (result ≡ offset v) × (result < words) }
 {
     (v as u64 + SIGN) % WORDS
 }
 
+#[tactic(auto, unfolding(rules::specs::Machine::in_range))]
 fn in_range(n: u64) -> bool
     ensures { result ≡ in_range n }
 {
@@ -50,10 +53,11 @@ fn subtract(v: u32, w: u32) -> Option<u32>
 }
 
 // The result's 32 bits, or `None`: "A result beyond 32 bits signed stops the run".
-pub fn compute(kind: u8, v: u32, w: u32) -> Option<u32>
-    ensures { computed_is result ≡ computed (operation_of kind) v w }
+#[tactic(auto, unfolding(tables::specs::Decode::operation_of))]
+pub fn compute(kind: Kind, v: u32, w: u32) -> Option<u32>
+    ensures { computed_is result ≡ computed (operation_of (number kind)) v w }
 {
-    if kind == Kind::ADD {
+    if kind == Kind::Add {
         return add(v, w);
     }
     subtract(v, w)

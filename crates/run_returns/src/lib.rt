@@ -1,16 +1,16 @@
 // `end` and `return`: back to the caller.
 #![tactic(auto)]
 
-ghost use Rattle.std.specs.Prelude.{◌≡◌, ◌+◌, ◌*◌, ◌-◌, ◌≤◌, ◌<◌, length};
+ghost use Rattle.std.specs.Prelude.{◌≡◌, ◌+◌, ◌*◌, ◌-◌, ◌≤◌, ◌<◌};
 ghost use Rattle.run_steps.specs.States.{CanStep, Does, most_count};
-ghost use Rattle.rules.specs.Limits.{work_bytes, most_statements};
+ghost use Rattle.rules.specs.Limits.{most_statements};
 ghost use Rattle.run_returns.specs.Returns.{Leaving, back, source_of, back_here, end_here};
 
 use rules::{Kind, Machine};
 use run_footprint::Shares;
 use run_heap::Stores;
 use run_steps::Turn;
-use tables::Layout;
+use tables::{Area, Layout};
 
 // One step more, back in the caller.
 fn back_in(c: Machine, holder: u32, row: u32) -> Machine
@@ -29,7 +29,7 @@ fn back_in(c: Machine, holder: u32, row: u32) -> Machine
 }
 
 // The caller goes on with the shares that ensures took, and its x is the result.
-fn leave(work: &mut [u8], c: Machine, shares: &Shares, n: usize) -> Turn
+fn leave(work: &mut Area, c: Machine, shares: &Shares, n: usize) -> Turn
     requires { Leaving work.old c shares.now n }
     ensures { Does work.old c work.new result (end_here work.old) }
 {
@@ -45,7 +45,7 @@ fn leave(work: &mut [u8], c: Machine, shares: &Shares, n: usize) -> Turn
 }
 
 // `end`: "ensures, then the caller gains its footprint, and x the result; the rest of that A is lost".
-fn end_step(work: &mut [u8], c: Machine) -> Turn
+fn end_step(work: &mut Area, c: Machine) -> Turn
     requires { CanStep work.old c }
     ensures { Does work.old c work.new result (end_here work.old) }
 {
@@ -63,11 +63,12 @@ fn end_step(work: &mut [u8], c: Machine) -> Turn
 }
 
 // The variable that is the result: of a `return` its x, of an `end` the result as it is.
-pub fn source(work: &[u8], row: usize) -> usize
-    requires { (length work.now ≡ work_bytes) × (row < most_statements) }
+pub fn source(work: &Area, row: usize) -> usize
+    requires { row < most_statements }
     ensures { result ≡ source_of work.now row }
 {
-    if tables::kind_at(work, row) == Kind::END {
+    // By its number: no more is asked of the row than where it stands.
+    if tables::kind_at(work, row) == Kind::End as u8 {
         return Stores::RESULT;
     }
     tables::x_at(work, row)
@@ -75,7 +76,7 @@ pub fn source(work: &[u8], row: usize) -> usize
 
 // `return`: "sets the result, tests ensures and goes back to the caller in one step"; and `end`, for which the result stays. Where it
 // does not go back, the old result is put back. One function for both, since the compiler puts a function into its only caller.
-pub fn back_step(work: &mut [u8], c: Machine) -> Turn
+pub fn back_step(work: &mut Area, c: Machine) -> Turn
     requires { CanStep work.old c }
     ensures { Does work.old c work.new result (back_here work.old c) }
 {

@@ -21,7 +21,7 @@ use Rattle.tables.specs.Tables.{SideFits}
 use Rattle.run_heap.specs.declared.View.{View}
 use Rattle.run_heap.specs.Views.{cell_value, cell_of, halves_at, spot, read_in}
 use Rattle.run_heap.specs.Chains.{walk_in}
-use Rattle.run_heap.proofs.Reading.{cell-null, spot_is_lem}
+use Rattle.run_heap.proofs.Reading.{cell-null, spot-is}
 use Rattle.run_footprint.specs.Footprints.{free_of}
 use Rattle.run_steps.proofs.Sights.{Sees, at, held_at}
 use Rattle.run_steps.proofs.Ways.{may_in, next, cell-may, walk-counted}
@@ -86,7 +86,7 @@ module _ {w : List ℕ} {v : View} {h : Heap} {F : Frame} (S : Sees w v h F) whe
       record {
         object = λ z. none-some (sym (cell-null w v.objects f) ∙ (ap (λ (i : ℕ). cell_of w v.objects i f) (sym z) ∙ c));
         cell = c;
-        held = (spot_is_lem w v n x f k e).1;
+        held = (spot-is w v n x f k e).1;
       }
 
   -- from `x.f`, held whole, the walk goes on from its value

@@ -29,7 +29,7 @@ use Rattle.run_heap.specs.Views.{variable_at, halves_at, cell_value, cell_of, pr
 use Rattle.run_heap.specs.Chains.{walk_in, cells_by}
 use Rattle.run_footprint.specs.Footprints.{share_of, taken, chain_of, is_chain, start_in, field_in, cells_in, spread_one, spread, taken_by, new_share, share_in, share_at, free_of, end_matches, ends_by, new_chain, chain_in, own_in, take_in, ShareFits, SharesFit}
 use Rattle.run_heap.proofs.Halves.{halves-most}
-use Rattle.run_heap.proofs.Reading.{spot_is_lem}
+use Rattle.run_heap.proofs.Reading.{spot-is}
 use Rattle.run_footprint.proofs.Shares.{share_cell, share_halves, part_same, part-other, taken_none, taken-end, any-end, any-either, share-plain, spread-plain, spread_end, spread-is, chain-start, chain-field}
 use Rattle.run_footprint.proofs.Taking.{access-fits, chain-null, chain-walked, chain-stops, chain-met, chain-free}
 use Rattle.run_steps.proofs.Sights.{Sees, at, held_at, held_none, held-exists}
@@ -101,7 +101,7 @@ module _ {w : List ℕ} {v : View} {h : Heap} {F : Frame} (S : Sees w v h F) whe
   unfolding ◌>>=◌
   locate-at n x f k l lx e = (
     locate-is n x f l lx ∙ rw e,
-    rw (S.values x lx) (spot_is_lem w v n x f k e).0,
+    rw (S.values x lx) (spot-is w v n x f k e).0,
   )
 
   pub locate-no :

@@ -202,7 +202,7 @@ module _ (w : List ℕ) (n k : ℕ) where
           spread-cons s ss,
           by-spread ss (λ r i. h r (further i)),
           ⊎_elim
-              (λ c. ⊎_elim (λ e. of-chain c e (h s at_head c e)) (λ e. of_other_lem c e) (decide-bool (any (eqb k) (cells_in w n s))))
+              (λ c. ⊎_elim (λ e. of-chain c e (h s at_head c e)) (λ e. of-other c e) (decide-bool (any (eqb k) (cells_in w n s))))
               of_plain
               (decide-bool (is_chain s)),
         )
@@ -212,8 +212,8 @@ module _ (w : List ℕ) (n k : ℕ) where
             part_by w n f k s ≡ taken k (spread_one w n s)
         of-chain c e (l, q) = rw (c, eq-eqb (field_in s) f q, e) (omega (arith, chain-has s c e, l))
 
-        of_other_lem : is_chain s ≡ true → any (eqb k) (cells_in w n s) ≡ false → part_by w n f k s ≡ taken k (spread_one w n s)
-        of_other_lem c e = rw (c, e) (either (eqb (field_in s) f) ∙ sym (chain-has-not s c e))
+        of-other : is_chain s ≡ true → any (eqb k) (cells_in w n s) ≡ false → part_by w n f k s ≡ taken k (spread_one w n s)
+        of-other c e = rw (c, e) (either (eqb (field_in s) f) ∙ sym (chain-has-not s c e))
           where
             either : (b : Bool) → ◌≡◌ {A = ℕ} (cond (b && false) 2 0) 0
             either true = refl

@@ -5,9 +5,10 @@ ghost use Rattle.run_steps.specs.States.{CanStep, AtKind, Does, Opening, Shuttin
 use crate::{Turn, next};
 use rules::Machine;
 use run_heap::{Fault, Stores};
+use tables::Area;
 
 // Where the location of `x.f`, the cell k, is held whole: the walk goes on from its value, which y gets.
-fn open_on(work: &mut [u8], c: Machine, f: usize, k: usize) -> Turn
+fn open_on(work: &mut Area, c: Machine, f: usize, k: usize) -> Turn
     requires { Opening work.old c f k }
     ensures { Does work.old c work.new result (open_here work.old c) }
 {
@@ -22,7 +23,7 @@ fn open_on(work: &mut [u8], c: Machine, f: usize, k: usize) -> Turn
 }
 
 // `open y x f`: "takes x ≠ null and `chain x f`; y becomes `x.f`"; "x null is 25".
-pub fn open_step(work: &mut [u8], c: Machine) -> Turn
+pub fn open_step(work: &mut Area, c: Machine) -> Turn
     requires { CanStep work.old c × AtKind work.old c Open }
     ensures { Does work.old c work.new result (open_here work.old c) }
 {
@@ -36,7 +37,7 @@ pub fn open_step(work: &mut [u8], c: Machine) -> Turn
 
 // Where the chain of the value of `x.f`, the cell k, is held: then all of the cell. The chain does not pass it: from there it would come to its own
 // start again.
-fn shut_whole(work: &[u8], c: Machine, k: usize) -> Turn
+fn shut_whole(work: &Area, c: Machine, k: usize) -> Turn
     requires { Walked work.now c k }
     ensures { Does work.now c work.now result (shut_here work.now c) }
 {
@@ -47,7 +48,7 @@ fn shut_whole(work: &[u8], c: Machine, k: usize) -> Turn
 }
 
 // Where half of the location of `x.f`, the cell k, is held: the chain from its value.
-fn shut_on(work: &[u8], c: Machine, f: usize, k: usize) -> Turn
+fn shut_on(work: &Area, c: Machine, f: usize, k: usize) -> Turn
     requires { Shutting work.now c f k }
     ensures { Does work.now c work.now result (shut_here work.now c) }
 {
@@ -57,7 +58,8 @@ fn shut_on(work: &[u8], c: Machine, f: usize, k: usize) -> Turn
 }
 
 // `shut x f`: "takes a chain of the value of `x.f` .. then the whole permission to `x.f`".
-pub fn shut_step(work: &[u8], c: Machine) -> Turn
+// Not one with `open_step`: the column of x, the halves that are asked for and what comes after differ, and one call is left.
+pub fn shut_step(work: &Area, c: Machine) -> Turn
     requires { CanStep work.now c × AtKind work.now c Shut }
     ensures { Does work.now c work.now result (shut_here work.now c) }
 {

@@ -1,7 +1,9 @@
 // How a run ends, of this machine and of the lean one: they differ in why a step is not done.
-ghost use Rattle.std.specs.Prelude.{◌≡◌, ◌<◌, length};
-ghost use Rattle.rules.specs.Limits.{work_bytes, most_statements};
+ghost use Rattle.std.specs.Prelude.{◌≡◌, ◌<◌};
+ghost use Rattle.rules.specs.Limits.{most_statements};
 ghost use Rattle.tables.specs.Decode.{line_at};
+
+use tables::Area;
 
 // How a run ends.
 #[derive(Clone, Copy)]
@@ -20,8 +22,8 @@ pub struct Ran<S> {
 }
 
 // A run that stands at a row.
-pub fn ended<S>(work: &[u8], row: u32, e: Ending<S>, n: u32) -> Ran<S>
-    requires { (length work.now ≡ work_bytes) × (row < most_statements) }
+pub fn ended<S>(work: &Area, row: u32, e: Ending<S>, n: u32) -> Ran<S>
+    requires { row < most_statements }
     ensures { ((result.ending ≡ e) × (result.line ≡ line_at work.now row)) × (result.steps ≡ n) }
 {
     let line = tables::line_at(work, row as usize);

@@ -4,7 +4,7 @@
 mod chains;
 mod ends;
 
-ghost use Rattle.std.specs.Prelude.{◌≡◌, [], ◌+◌, ◌*◌, ◌<◌, T, length};
+ghost use Rattle.std.specs.Prelude.{◌≡◌, [], ◌+◌, ◌*◌, ◌<◌, T};
 ghost use Rattle.rules.specs.Grammar.{Set, Let, If, Loop, is_computing};
 ghost use Rattle.tables.specs.Decode.{kind_at, formula_at, atom_count};
 ghost use Rattle.run_steps.specs.States.{CanStep, NotEnd, AtKind, Chooses, Jumps, Does, most_count, stepped, set_here, let_here, compute_here, assert_here, release_here, if_on, if_here, loop_here, jump_here};
@@ -16,7 +16,7 @@ pub use ends::{Ending, Ran, ended};
 use rules::Machine;
 use run_footprint::Shares;
 use run_heap::{Fault, Stores};
-use tables::Layout;
+use tables::{Area, Layout};
 
 // The number of no frame: what is released goes to it.
 const NOBODY: u32 = 0;
@@ -41,8 +41,8 @@ fn next(c: Machine, row: u32) -> Machine
 }
 
 // What the formula of the row takes.
-fn row_footprint(work: &[u8], c: Machine, shares: &mut Shares) -> Result<usize, Fault>
-    requires { CanStep work.now c × (length shares.old ≡ footprint_shares) }
+fn row_footprint(work: &Area, c: Machine, shares: &mut Shares) -> Result<usize, Fault>
+    requires { CanStep work.now c }
     ensures { TookUpTo result shares.new footprint_shares (take_in work.now (view_of c) (formula_at work.now c.row) []) }
 {
     let row = c.row as usize;
@@ -53,7 +53,7 @@ fn row_footprint(work: &[u8], c: Machine, shares: &mut Shares) -> Result<usize, 
 }
 
 // `assert` and `join`.
-pub fn assert_step(work: &[u8], c: Machine) -> Turn
+pub fn assert_step(work: &Area, c: Machine) -> Turn
     requires { CanStep work.now c × NotEnd work.now c }
     ensures { Does work.now c work.now result (assert_here work.now c) }
 {
@@ -63,7 +63,7 @@ pub fn assert_step(work: &[u8], c: Machine) -> Turn
 }
 
 // `release`.
-pub fn release_step(work: &mut [u8], c: Machine) -> Turn
+pub fn release_step(work: &mut Area, c: Machine) -> Turn
     requires { CanStep work.old c × NotEnd work.old c }
     ensures { Does work.old c work.new result (release_here work.old c) }
 {
@@ -74,7 +74,7 @@ pub fn release_step(work: &mut [u8], c: Machine) -> Turn
 }
 
 // On to the next row where the condition, the atom a, holds, and else to the row's target.
-fn choose(work: &[u8], c: Machine, a: usize) -> Turn
+fn choose(work: &Area, c: Machine, a: usize) -> Turn
     requires { CanStep work.now c × Chooses work.now c × (a < atom_count work.now) }
     ensures { Does work.now c work.now result (if_on work.now a) }
 {
@@ -87,7 +87,7 @@ fn choose(work: &[u8], c: Machine, a: usize) -> Turn
 }
 
 // `if`: "a false `if` goes to the line after its `else`".
-pub fn if_step(work: &[u8], c: Machine) -> Turn
+pub fn if_step(work: &Area, c: Machine) -> Turn
     requires { CanStep work.now c × AtKind work.now c If }
     ensures { Does work.now c work.now result (if_here work.now c) }
 {
@@ -96,7 +96,7 @@ pub fn if_step(work: &[u8], c: Machine) -> Turn
 }
 
 // `loop`: "tests the invariant, then the condition", which is the atom before it, "and if that is false goes on after `again`".
-pub fn loop_step(work: &[u8], c: Machine) -> Turn
+pub fn loop_step(work: &Area, c: Machine) -> Turn
     requires { CanStep work.now c × AtKind work.now c Loop }
     ensures { Does work.now c work.now result (loop_here work.now c) }
 {
@@ -107,7 +107,7 @@ pub fn loop_step(work: &[u8], c: Machine) -> Turn
 }
 
 // `else`, "on to its `join`", and `again`, "a step back to" its `loop`.
-pub fn jump_step(work: &[u8], c: Machine) -> Turn
+pub fn jump_step(work: &Area, c: Machine) -> Turn
     requires { CanStep work.now c × Jumps work.now c }
     ensures { Does work.now c work.now result (jump_here work.now c) }
 {
@@ -116,7 +116,7 @@ pub fn jump_step(work: &[u8], c: Machine) -> Turn
 }
 
 // `let`.
-pub fn let_step(work: &mut [u8], c: Machine) -> Turn
+pub fn let_step(work: &mut Area, c: Machine) -> Turn
     requires { CanStep work.old c × AtKind work.old c Let }
     ensures { Does work.old c work.new result (let_here work.old c) }
 {
@@ -131,7 +131,7 @@ pub fn let_step(work: &mut [u8], c: Machine) -> Turn
 }
 
 // `add` and `sub`.
-pub fn compute_step(work: &mut [u8], c: Machine) -> Turn
+pub fn compute_step(work: &mut Area, c: Machine) -> Turn
     requires { CanStep work.old c × T (is_computing (kind_at work.old c.row)) }
     ensures { Does work.old c work.new result (compute_here work.old c) }
 {
@@ -140,14 +140,14 @@ pub fn compute_step(work: &mut [u8], c: Machine) -> Turn
     let b = v.base;
     let y = run_heap::variable(work, b, tables::y_at(work, row));
     let z = run_heap::variable(work, b, tables::z_at(work, row));
-    let n = run_numbers::compute(tables::kind_at(work, row), y, z).ok_or(Fault::Overflow)?;
+    let n = run_numbers::compute(tables::row_kind(work, row), y, z).ok_or(Fault::Overflow)?;
     let x = tables::x_at(work, row);
     tables::put_word(work, b + x * Stores::WORD_BYTES, n);
     Ok(Some(next(c, c.row + 1)))
 }
 
 // `set`: "first tests `acc x f`"; W8: "Reading needs one half, `set` both."
-pub fn set_step(work: &mut [u8], c: Machine) -> Turn
+pub fn set_step(work: &mut Area, c: Machine) -> Turn
     requires { CanStep work.old c × AtKind work.old c Set }
     ensures { Does work.old c work.new result (set_here work.old c) }
 {

@@ -1,4 +1,4 @@
-use Rattle.lean_heap.proofs.Following.{has-size, has_base}
+use Rattle.lean_heap.proofs.Following.{has_base}
 use Rattle.lean_calls.proofs.Returning.{source-small, saved-small, back_done, back-does}
 use borrow.Author.Rules.{rules}
 use Rattle.lean_calls.proofs.back_step.Goals as goal
@@ -12,7 +12,7 @@ variable-n-requires c =
 
 pub x_at-x-requires : goal.x_at-x-requires
 x_at-x-requires c =
-    (has-size c.requires.0, saved-small c.requires.1 c.requires.0 c.if-c-eq1.false _ c.saved_row-row.ensures.0)
+    saved-small c.requires.1 c.requires.0 c.if-c-eq1.false _ c.saved_row-row.ensures.0
 
 pub returns : goal.returns
 returns c =

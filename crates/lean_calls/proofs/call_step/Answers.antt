@@ -1,4 +1,3 @@
-use Rattle.lean_heap.proofs.Following.{has-size, has_base, y-small, z-small}
 use Rattle.lean_calls.proofs.Calling.{method-small, frames-full, call-does}
 use borrow.Author.Rules.{rules}
 use Rattle.lean_calls.proofs.call_step.Goals as goal
@@ -6,17 +5,9 @@ use Rattle.lean_calls.proofs.call_step.Goals as goal
 pub returns-then-c : goal.returns-then-c
 returns-then-c c = frames-full c.requires.1 c.requires.0 c.if-c.true
 
-pub variable-o-requires : goal.variable-o-requires
-variable-o-requires c =
-    (has_base c.requires.0 c.base_of-b.ensures.0, y-small c.requires.0 c.y_at-y.ensures.0)
-
-pub variable-p-requires : goal.variable-p-requires
-variable-p-requires c =
-    (has_base c.requires.0 c.base_of-b.ensures.0, z-small c.requires.0 c.z_at-z.ensures.0)
-
 pub first_row_at-first-requires : goal.first_row_at-first-requires
 first_row_at-first-requires c =
-    (has-size c.requires.0, method-small c.requires.1 c.requires.0 c.member_at-m.ensures.0)
+    method-small c.requires.1 c.requires.0 c.member_at-m.ensures.0
 
 pub returns : goal.returns
 returns c =

@@ -1,12 +1,10 @@
 use mathlib.Core.Logic.{inl, inr}
-use native.Mathlib.Omega.{arith}
-use Rattle.lean_heap.proofs.Following.{has-size, has-row, x-small}
-use Rattle.lean_calls.proofs.Growing.{new-class, heap-full, made-length, new-does}
+use Rattle.lean_calls.proofs.Growing.{new-class, heap-full, new-does}
 use Rattle.lean_calls.proofs.new_step.Goals as goal
 
 pub field_count_at-n-requires : goal.field_count_at-n-requires
 field_count_at-n-requires c =
-    (has-size c.requires.0, new-class c.requires.1 c.requires.0 _ c.member_at-class.ensures.0)
+    new-class c.requires.1 c.requires.0 _ c.member_at-class.ensures.0
 
 pub returns-then-c : goal.returns-then-c
 returns-then-c c =
@@ -18,15 +16,7 @@ returns-then-fields c =
 
 pub make_object-requires : goal.make_object-requires
 make_object-requires c =
-    (has-size c.requires.0, ((c.if-c.false, c.if-fields.false), new-class c.requires.1 c.requires.0 _ c.member_at-class.ensures.0))
-
-pub put_word-requires : goal.put_word-requires
-put_word-requires c =
-    omega (arith, c.base_of-b.ensures.1, x-small c.requires.0 c.x_at-x.ensures.0, made-length c.requires.1 c.requires.0 _ c.member_at-class.ensures.0 _ c.field_count_at-n.ensures.0 c.if-c.false c.if-fields.false c.make_object.ensures, has-size c.requires.0)
-
-pub grow-requires : goal.grow-requires
-grow-requires c =
-    (c.requires.0.more, (c.if-c.false, (c.if-fields.false, has-row c.requires.0)))
+    ((c.if-c.false, c.if-fields.false), new-class c.requires.1 c.requires.0 _ c.member_at-class.ensures.0)
 
 pub returns : goal.returns
 returns c =

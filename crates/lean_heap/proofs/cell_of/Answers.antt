@@ -19,7 +19,7 @@ half_at-first-requires c = omega (arith, (there-object c.requires.0).1, c.requir
 pub place_at-requires : goal.place_at-requires
 unfolding class_in
 place_at-requires c =
-    (c.requires.0.tables.size, (subst (λ n. n < most_classes) (sym c.byte_at-c.ensures.0) (there-class c.requires.0), c.requires.1))
+    (subst (λ n. n < most_classes) (sym c.byte_at-c.ensures.0) (there-class c.requires.0), c.requires.1)
 
 pub returns : goal.returns
 unfolding class_in first_in

@@ -25,11 +25,7 @@ loop-c-preserved c =
 
 pub ended-requires-in-Err : goal.ended-requires-in-Err
 ended-requires-in-Err c =
-    (c.step.ensures.tables.size ∙ (at-row c.loop-c.invariant).0, (at-row c.loop-c.invariant).1)
-
-pub shape_of-work-in-Err : goal.shape_of-work-in-Err
-shape_of-work-in-Err c =
-    (c.step.ensures.tables.size ∙ (c.loop-c.invariant.same.size ∙ c.begin-c.auto.work))
+    (at-row c.loop-c.invariant).1
 
 pub returns-in-Err : goal.returns-in-Err
 returns-in-Err c =
@@ -41,21 +37,14 @@ overflow_add-c c =
 
 pub ended-requires : goal.ended-requires
 ended-requires c =
-    (c.step.ensures.tables.size ∙ (at-row c.loop-c.invariant).0, (at-row c.loop-c.invariant).1)
-
-pub shape_of-work-in-Ok-None : goal.shape_of-work-in-Ok-None
-shape_of-work-in-Ok-None c =
-    (c.step.ensures.tables.size ∙ (c.loop-c.invariant.same.size ∙ c.begin-c.auto.work))
+    (at-row c.loop-c.invariant).1
 
 pub returns-in-Ok-None : goal.returns-in-Ok-None
 returns-in-Ok-None c =
     from-tables c.requires.0 c.begin-c.ensures.1 (ends-finished c.loop-c.invariant _ c.loop-c-test.true (does-answer (c.in-Ok-None.is ∙ ap Ok c.in-Ok-None.field-0-is) c.step.ensures) c.ended.ensures.0.0 c.ended.ensures.0.1 c.ended.ensures.1)
 
 pub ended-requires-2 : goal.ended-requires-2
-ended-requires-2 c = at-row c.loop-c.invariant
-
-pub shape_of-work : goal.shape_of-work
-shape_of-work c = c.loop-c.invariant.same.size ∙ c.begin-c.auto.work
+ended-requires-2 c = (at-row c.loop-c.invariant).1
 
 pub returns : goal.returns
 returns c =

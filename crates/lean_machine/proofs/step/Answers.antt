@@ -1,14 +1,5 @@
-use mathlib.Core.Path.{◌∙◌}
-use mathlib.Core.Logic.{inl, inr}
-use Rattle.lean_machine.proofs.Running.{has-kind, no_other}
+use Rattle.lean_heap.proofs.Following.{has-row, has-kind}
 use Rattle.lean_machine.proofs.step.Goals as goal
 
-pub returns-in-0-to-7 : goal.returns-in-0-to-7
-returns-in-0-to-7 c =
-    absurd
-    (no_other _ (has-kind c.requires)
-    (λ z. c.in-0-to-7.in-0-to-7-own.rest.0.0.0.0.0.0.0.0.0.0.0.0.1 (c.kind_at.ensures ∙ z)) (λ z. c.in-0-to-7.in-0-to-7-own.rest.0.0.0.0.0.0.0.0.0.0.0.1 (c.kind_at.ensures ∙ z)) (λ z. c.in-0-to-7.in-0-to-7-own.rest.0.0.0.0.0.0.0.0.0.0.1 (c.kind_at.ensures ∙ z)) (λ z. c.in-0-to-7.in-0-to-7-own.rest.0.0.0.0.0.0.0.0.0.1 (c.kind_at.ensures ∙ z))
-    (λ z. c.in-0-to-7.in-0-to-7-own.rest.0.0.0.0.0.0.0.0.1 (inl (c.kind_at.ensures ∙ z))) (λ z. c.in-0-to-7.in-0-to-7-own.rest.0.0.0.1 (inl (c.kind_at.ensures ∙ z))) (λ z. c.in-0-to-7.in-0-to-7-own.rest.0.0.1 (c.kind_at.ensures ∙ z)) (λ z. c.in-0-to-7.in-0-to-7-own.rest.0.0.0.0.0.1 (inl (c.kind_at.ensures ∙ z)))
-    (λ z. c.in-0-to-7.in-0-to-7-own.rest.0.0.0.0.1 (inl (c.kind_at.ensures ∙ z))) (λ z. c.in-0-to-7.in-0-to-7-own.rest.0.0.0.1 (inr (c.kind_at.ensures ∙ z))) (λ z. c.in-0-to-7.in-0-to-7-own.rest.0.0.0.0.0.0.0.0.1 (inr (c.kind_at.ensures ∙ z))) (λ z. c.in-0-to-7.in-0-to-7-own.rest.0.0.0.0.0.0.0.1 (c.kind_at.ensures ∙ z))
-    (λ z. c.in-0-to-7.in-0-to-7-own.rest.0.0.0.0.0.0.1 (c.kind_at.ensures ∙ z)) (λ z. c.in-0-to-7.in-0-to-7-own.rest.0.0.0.0.0.1 (inr (c.kind_at.ensures ∙ z))) (λ z. c.in-0-to-7.in-0-to-7-own.rest.0.0.0.0.1 (inr (c.kind_at.ensures ∙ z))) (λ z. c.in-0-to-7.in-0-to-7-own.rest.0.1 (c.kind_at.ensures ∙ z))
-    (λ z. c.in-0-to-7.in-0-to-7-own.rest.1 (c.kind_at.ensures ∙ z)))
+pub row_kind-requires : goal.row_kind-requires
+row_kind-requires c = (has-row c.requires, has-kind c.requires)

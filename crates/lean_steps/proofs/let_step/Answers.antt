@@ -1,11 +1,11 @@
-use Rattle.lean_heap.proofs.Following.{has-size, has_base}
+use Rattle.lean_heap.proofs.Following.{has_base}
 use Rattle.lean_steps.proofs.Doing.{let-small, let-readable, let-does}
 use borrow.Author.Rules.{rules}
 use Rattle.lean_steps.proofs.let_step.Goals as goal
 
 pub right_at-requires : goal.right_at-requires
 right_at-requires c =
-    (has-size c.requires.0, let-small c.requires.0 c.requires.1 _ c.first_atom_at-a.ensures.0)
+    let-small c.requires.0 c.requires.1 _ c.first_atom_at-a.ensures.0
 
 pub value-n-requires : goal.value-n-requires
 value-n-requires c =

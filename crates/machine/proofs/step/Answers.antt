@@ -1,107 +1,60 @@
-use mathlib.Core.Path.{sym, ◌∙◌}
-use Rattle.machine.proofs.Stepping as Stepping
-use mathlib.Core.Logic.{inl, inr, ⊎_elim}
-use Rattle.run_steps.proofs.Doing.{fits}
+use mathlib.Core.Path.{sym}
 use Rattle.rules.specs.Grammar.{statement_number}
-use native.Mathlib.Omega.{arith}
+use Rattle.rules.proofs.KindNumbers.{either, computes}
+use Rattle.machine.proofs.Stepping as Stepping
 use Rattle.machine.proofs.step.Goals as goal
 
-pub assert_step-requires : goal.assert_step-requires
-unfolding statement_number
-assert_step-requires c =
-    (c.requires.0, ⊎_elim (λ e z. omega (arith, e, z, c.kind_at.ensures)) (λ e z. omega (arith, e, z, c.kind_at.ensures)) c.in-13.is)
-
-pub jump_step-requires : goal.jump_step-requires
-unfolding statement_number
-jump_step-requires c =
-    (c.requires.0, ⊎_elim (λ e. inl (sym c.kind_at.ensures ∙ e)) (λ e. inr (sym c.kind_at.ensures ∙ e)) c.in-16.is)
-
 pub compute_step-requires : goal.compute_step-requires
-compute_step-requires c =
-    let t =
-    Stepping.is-computing _ (fits c.requires.0).kind (λ z. c.in-19.in_default-own.rest.0.0.0.0.0.0.0.0.0.0.0.1 (c.kind_at.ensures ∙ z)) (λ z. c.in-19.in_default-own.rest.0.0.0.0.0.0.0.0.0.0.1 (c.kind_at.ensures ∙ z))
-    (λ z. c.in-19.in_default-own.rest.0.0.0.0.0.0.0.0.0.1 (c.kind_at.ensures ∙ z)) (λ z. c.in-19.in_default-own.rest.0.0.0.0.0.0.0.0.1 (c.kind_at.ensures ∙ z)) (λ z. c.in-19.in_default-own.rest.0.0.0.0.0.0.0.1 (inl (c.kind_at.ensures ∙ z)))
-    (λ o. c.in-19.in_default-own.rest.0.0.0.0.0.0.1 (⊎_elim (λ z. inl (c.kind_at.ensures ∙ z)) (λ z. inr (c.kind_at.ensures ∙ z)) o)) (λ z. c.in-19.in_default-own.rest.0.0.0.0.0.1 (c.kind_at.ensures ∙ z))
-    (λ z. c.in-19.in_default-own.rest.0.0.0.0.1 (c.kind_at.ensures ∙ z)) (λ z. c.in-19.in_default-own.rest.0.0.0.1 (c.kind_at.ensures ∙ z))
-    (λ o. c.in-19.in_default-own.rest.0.0.1 (⊎_elim (λ z. inl (c.kind_at.ensures ∙ z)) (λ z. inr (c.kind_at.ensures ∙ z)) o)) (λ z. c.in-19.in_default-own.rest.0.1 (c.kind_at.ensures ∙ z)) (λ z. c.in-19.in_default-own.rest.1 (c.kind_at.ensures ∙ z)) (λ z. c.in-19.in_default-own.rest.0.0.0.0.0.0.0.1 (inr (c.kind_at.ensures ∙ z))) in
-    (c.requires.0, t)
+compute_step-requires c = (c.requires.0, computes c.row_kind.ensures c.in-Add.is)
 
-pub returns-in-8 : goal.returns-in-8
+pub returns-in-Set : goal.returns-in-Set
 unfolding statement_number
-returns-in-8 c =
-    Stepping.does-as (Stepping.set_is _ (sym c.kind_at.ensures ∙ c.in-8.is)) c.set_step.ensures
+returns-in-Set c = Stepping.does-as (Stepping.set_is _ (sym c.in-Set.ensures)) c.set_step.ensures
 
-pub returns-in-9 : goal.returns-in-9
+pub returns-in-Let : goal.returns-in-Let
 unfolding statement_number
-returns-in-9 c =
-    Stepping.does-as (Stepping.let-is _ (sym c.kind_at.ensures ∙ c.in-9.is)) c.let_step.ensures
+returns-in-Let c = Stepping.does-as (Stepping.let-is _ (sym c.in-Let.ensures)) c.let_step.ensures
 
-pub returns-in-10 : goal.returns-in-10
+pub returns-in-New : goal.returns-in-New
 unfolding statement_number
-returns-in-10 c =
-    Stepping.does-as (Stepping.new_is _ c.requires.0 (sym c.kind_at.ensures ∙ c.in-10.is)) c.new_step.ensures
+returns-in-New c = Stepping.does-as (Stepping.new_is _ c.requires.0 (sym c.in-New.ensures)) c.new_step.ensures
 
-pub returns-in-11 : goal.returns-in-11
+pub returns-in-Call : goal.returns-in-Call
 unfolding statement_number
-returns-in-11 c =
-    Stepping.does-as (Stepping.call-is _ c.requires.0 (sym c.kind_at.ensures ∙ c.in-11.is)) c.call_step.ensures
+returns-in-Call c = Stepping.does-as (Stepping.call-is _ c.requires.0 (sym c.in-Call.ensures)) c.call_step.ensures
 
-pub returns-in-12 : goal.returns-in-12
+pub returns-in-Return : goal.returns-in-Return
 unfolding statement_number
-returns-in-12 c =
-    Stepping.does-as (Stepping.back_is _ (⊎_elim (λ e. inl (sym c.kind_at.ensures ∙ e)) (λ e. inr (sym c.kind_at.ensures ∙ e)) c.in-12.is)) c.back_step.ensures
+returns-in-Return c = Stepping.does-as (Stepping.back_is _ (either c.row_kind.ensures c.in-Return.is)) c.back_step.ensures
 
-pub returns-in-13 : goal.returns-in-13
+pub returns-in-Assert : goal.returns-in-Assert
 unfolding statement_number
-returns-in-13 c =
-    Stepping.does-as (Stepping.assert-is _ (⊎_elim (λ e. inl (sym c.kind_at.ensures ∙ e)) (λ e. inr (sym c.kind_at.ensures ∙ e)) c.in-13.is)) c.assert_step.ensures
+returns-in-Assert c = Stepping.does-as (Stepping.assert-is _ (either c.row_kind.ensures c.in-Assert.is)) c.assert_step.ensures
 
-pub returns-in-14 : goal.returns-in-14
+pub returns-in-Release : goal.returns-in-Release
 unfolding statement_number
-returns-in-14 c =
-    Stepping.does-as (Stepping.release-is _ (sym c.kind_at.ensures ∙ c.in-14.is)) c.release_step.ensures
+returns-in-Release c = Stepping.does-as (Stepping.release-is _ (sym c.in-Release.ensures)) c.release_step.ensures
 
-pub returns-in-15 : goal.returns-in-15
+pub returns-in-If : goal.returns-in-If
 unfolding statement_number
-returns-in-15 c =
-    Stepping.does-as (Stepping.if-is _ (sym c.kind_at.ensures ∙ c.in-15.is)) c.if_step.ensures
+returns-in-If c = Stepping.does-as (Stepping.if-is _ (sym c.in-If.ensures)) c.if_step.ensures
 
-pub returns-in-21 : goal.returns-in-21
+pub returns-in-Loop : goal.returns-in-Loop
 unfolding statement_number
-returns-in-21 c =
-    Stepping.does-as (Stepping.loop-is _ (sym c.kind_at.ensures ∙ c.in-21.is)) c.loop_step.ensures
+returns-in-Loop c = Stepping.does-as (Stepping.loop-is _ (sym c.in-Loop.ensures)) c.loop_step.ensures
 
-pub returns-in-16 : goal.returns-in-16
+pub returns-in-Else : goal.returns-in-Else
 unfolding statement_number
-returns-in-16 c =
-    Stepping.does-as (Stepping.jump-is _ (⊎_elim (λ e. inl (sym c.kind_at.ensures ∙ e)) (λ e. inr (sym c.kind_at.ensures ∙ e)) c.in-16.is)) c.jump_step.ensures
+returns-in-Else c = Stepping.does-as (Stepping.jump-is _ (either c.row_kind.ensures c.in-Else.is)) c.jump_step.ensures
 
-pub returns-in-23 : goal.returns-in-23
+pub returns-in-Open : goal.returns-in-Open
 unfolding statement_number
-returns-in-23 c =
-    Stepping.does-as (Stepping.open_is _ (sym c.kind_at.ensures ∙ c.in-23.is)) c.open_step.ensures
+returns-in-Open c = Stepping.does-as (Stepping.open_is _ (sym c.in-Open.ensures)) c.open_step.ensures
 
-pub returns-in-24 : goal.returns-in-24
+pub returns-in-Shut : goal.returns-in-Shut
 unfolding statement_number
-returns-in-24 c =
-    Stepping.does-as (Stepping.shut-is _ (sym c.kind_at.ensures ∙ c.in-24.is)) c.shut_step.ensures
+returns-in-Shut c = Stepping.does-as (Stepping.shut-is _ (sym c.in-Shut.ensures)) c.shut_step.ensures
 
-pub returns-in-19 : goal.returns-in-19
-returns-in-19 c =
-    let t =
-    Stepping.is-computing _ (fits c.requires.0).kind (λ z. c.in-19.in_default-own.rest.0.0.0.0.0.0.0.0.0.0.0.1 (c.kind_at.ensures ∙ z)) (λ z. c.in-19.in_default-own.rest.0.0.0.0.0.0.0.0.0.0.1 (c.kind_at.ensures ∙ z))
-    (λ z. c.in-19.in_default-own.rest.0.0.0.0.0.0.0.0.0.1 (c.kind_at.ensures ∙ z)) (λ z. c.in-19.in_default-own.rest.0.0.0.0.0.0.0.0.1 (c.kind_at.ensures ∙ z)) (λ z. c.in-19.in_default-own.rest.0.0.0.0.0.0.0.1 (inl (c.kind_at.ensures ∙ z)))
-    (λ o. c.in-19.in_default-own.rest.0.0.0.0.0.0.1 (⊎_elim (λ z. inl (c.kind_at.ensures ∙ z)) (λ z. inr (c.kind_at.ensures ∙ z)) o)) (λ z. c.in-19.in_default-own.rest.0.0.0.0.0.1 (c.kind_at.ensures ∙ z))
-    (λ z. c.in-19.in_default-own.rest.0.0.0.0.1 (c.kind_at.ensures ∙ z)) (λ z. c.in-19.in_default-own.rest.0.0.0.1 (c.kind_at.ensures ∙ z))
-    (λ o. c.in-19.in_default-own.rest.0.0.1 (⊎_elim (λ z. inl (c.kind_at.ensures ∙ z)) (λ z. inr (c.kind_at.ensures ∙ z)) o)) (λ z. c.in-19.in_default-own.rest.0.1 (c.kind_at.ensures ∙ z)) (λ z. c.in-19.in_default-own.rest.1 (c.kind_at.ensures ∙ z)) (λ z. c.in-19.in_default-own.rest.0.0.0.0.0.0.0.1 (inr (c.kind_at.ensures ∙ z))) in
-    Stepping.does-as (Stepping.compute-is _ t) c.compute_step.ensures
-
-pub returns-in-0-to-7 : goal.returns-in-0-to-7
-returns-in-0-to-7 c =
-    absurd (omega (arith, c.kind_at.ensures, c.in-0-to-7.if-this-lt8-own.true, (fits c.requires.0).kind.0))
-
-pub returns-in-0-to-7-2 : goal.returns-in-0-to-7-2
-returns-in-0-to-7-2 c =
-    absurd
-    (Stepping.past_all _ (fits c.requires.0).kind (omega (arith, c.kind_at.ensures, c.in-0-to-7.if-this-lt21-own.false))
-    (λ z. c.in-0-to-7.in_default-own.rest.0.0.0.1 (c.kind_at.ensures ∙ z)) (λ o. c.in-0-to-7.in_default-own.rest.0.0.1 (⊎_elim (λ z. inl (c.kind_at.ensures ∙ z)) (λ z. inr (c.kind_at.ensures ∙ z)) o)) (λ z. c.in-0-to-7.in_default-own.rest.0.1 (c.kind_at.ensures ∙ z)) (λ z. c.in-0-to-7.in_default-own.rest.1 (c.kind_at.ensures ∙ z)))
+pub returns-in-Add : goal.returns-in-Add
+returns-in-Add c =
+    Stepping.does-as (Stepping.compute-is _ (computes c.row_kind.ensures c.in-Add.is)) c.compute_step.ensures

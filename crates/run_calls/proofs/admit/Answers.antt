@@ -8,7 +8,7 @@ use Rattle.run_calls.proofs.admit.Goals as goal
 
 pub footprint-requires : goal.footprint-requires
 footprint-requires c =
-    let r = requires-atoms _ _ _ c.requires c.requires_first-first.ensures.0 c.requires_count-n.ensures.0 in ((c.requires.readable, r.0), (r.1, refl))
+    let r = requires-atoms _ _ _ c.requires c.requires_first-first.ensures.0 c.requires_count-n.ensures.0 in ((c.requires.readable, r.0), r.1)
 
 pub enter-requires : goal.enter-requires
 enter-requires c =

@@ -24,7 +24,7 @@ variable-p-requires c =
 pub prepare-requires : goal.prepare-requires
 unfolding statement_number
 prepare-requires c =
-    (size c.requires.0, (frames-fit c.requires.0, (row_small c.requires.0, omega (arith, c.member_at-m.ensures.0, (fits c.requires.0).method c.requires.1, c.requires.0.represents.tables.methods))))
+    (frames-fit c.requires.0, (row_small c.requires.0, omega (arith, c.member_at-m.ensures.0, (fits c.requires.0).method c.requires.1, c.requires.0.represents.tables.methods)))
 
 pub admit-requires : goal.admit-requires
 admit-requires c =

@@ -3,11 +3,11 @@ use Rattle.run_calls.proofs.enter.Goals as goal
 
 pub first_row_at-row-requires : goal.first_row_at-row-requires
 first_row_at-row-requires c =
-    (c.requires.readable.tables.size, c.requires.method_fits)
+    c.requires.method_fits
 
 pub mark-requires : goal.mark-requires
 mark-requires c =
-    ((c.requires.readable, (c.requires.count, c.requires.size)), c.requires.fit)
+    ((c.requires.readable, c.requires.count), c.requires.fit)
 
 pub returns : goal.returns
 returns c =

@@ -9,7 +9,7 @@ use Rattle.run_calls.proofs.new_step.Goals as goal
 pub field_count_at-n-requires : goal.field_count_at-n-requires
 unfolding statement_number
 field_count_at-n-requires c =
-    (size c.requires.0.0, omega (arith, c.member_at-class.ensures.0, (fits c.requires.0.0).class c.requires.0.1, c.requires.0.0.represents.tables.classes))
+    omega (arith, c.member_at-class.ensures.0, (fits c.requires.0.0).class c.requires.0.1, c.requires.0.0.represents.tables.classes)
 
 pub returns-then-most_objects-c : goal.returns-then-most_objects-c
 returns-then-most_objects-c c =
@@ -21,7 +21,7 @@ returns-then-most_fields-fields c =
 
 pub make_object-requires : goal.make_object-requires
 make_object-requires c =
-    (size c.requires.0.0, ((omega (arith, c.if-most_objects-c.false, c.requires.1), omega (arith, c.if-most_fields-fields.false, c.requires.1)), (new-small c.requires.0.0 c.requires.0.1 _ _ c.requires.1.0 c.requires.1.1 _ _ c.member_at-class.ensures.0 c.field_count_at-n.ensures.0).0))
+    ((omega (arith, c.if-most_objects-c.false, c.requires.1), omega (arith, c.if-most_fields-fields.false, c.requires.1)), (new-small c.requires.0.0 c.requires.0.1 _ _ c.requires.1.0 c.requires.1.1 _ _ c.member_at-class.ensures.0 c.field_count_at-n.ensures.0).0)
 
 pub overflow_add-b : goal.overflow_add-b
 overflow_add-b c =

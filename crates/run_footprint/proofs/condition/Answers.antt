@@ -1,3 +1,7 @@
+use mathlib.Core.Path.{ap, ◌∙◌}
+use Rattle.tables.specs.Decode.{rel_of}
+use Rattle.tables.specs.Kinds.{kind_number}
+use Rattle.tables.proofs.AtomKinds.{rel-kind}
 use Rattle.run_heap.specs.Views.{answered}
 use Rattle.run_footprint.specs.Footprints.{test_in, right_test}
 use Rattle.rules.specs.Base.{◌>>=◌}
@@ -17,4 +21,4 @@ returns-in_err-r c =
 pub returns : goal.returns
 unfolding answered test_in right_test ◌>>=◌
 returns c =
-    rw (answered-ok _ _ c.in_ok-l.was c.left.ensures, answered-ok _ _ c.in_ok-r.was c.right.ensures, c.compare.ensures, c.atom_kind.ensures.0)
+    rw (answered-ok _ _ c.in_ok-l.was c.left.ensures, answered-ok _ _ c.in_ok-r.was c.right.ensures, c.compare.ensures, ap (λ k. rel_of (kind_number k)) c.atom_kind.ensures ∙ rel-kind _)

@@ -10,7 +10,7 @@ use Rattle.run_footprint.proofs.footprint.Goals as goal
 
 pub loop-i-init : goal.loop-i-init
 loop-i-init c =
-    (omega arith, c.requires.1.1, let e : c.args.first + 0 ≡ c.args.first = omega arith in let f : c.args.n - 0 ≡ c.args.n = omega arith in rw (e, f), sieve-none c.args.shares.now _ (length-replicate {A = ℕ} 64 0))
+    (omega arith, c.told-shares, let e : c.args.first + 0 ≡ c.args.first = omega arith in let f : c.args.n - 0 ≡ c.args.n = omega arith in rw (e, f), sieve-none c.args.shares.now _ (length-replicate {A = ℕ} 64 0))
 
 pub take_atom-requires : goal.take_atom-requires
 take_atom-requires c =

@@ -14,11 +14,11 @@ loop-i-init c =
 
 pub mark_one-requires : goal.mark_one-requires
 mark_one-requires c =
-    let g : length c.args.shares.now ≡ 8 = c.requires.0.1.1 in (readable-kept c.loop-i.invariant.0 c.requires.0.0, subst SharesFit (sym (spread-one-kept c.loop-i.invariant.0 c.requires.0.0 _)) (λ j t. c.requires.1 j (spread-among _ _ j c.args.shares.now _ _ (omega arith) c.loop-i-test.true t)))
+    let g : length c.args.shares.now ≡ 8 = c.told-shares in (readable-kept c.loop-i.invariant.0 c.requires.0.0, subst SharesFit (sym (spread-one-kept c.loop-i.invariant.0 c.requires.0.0 _)) (λ j t. c.requires.1 j (spread-among _ _ j c.args.shares.now _ _ (omega arith) c.loop-i-test.true t)))
 
 pub loop-i-preserved : goal.loop-i-preserved
 loop-i-preserved c =
-    let g : length c.args.shares.now ≡ 8 = c.requires.0.1.1 in
+    let g : length c.args.shares.now ≡ 8 = c.told-shares in
     let k = spread-one-kept c.loop-i.invariant.0 c.requires.0.0 (get_or c.args.shares.now c.loop-i.i 0) in (
       only-trans c.loop-i.invariant.0
           (rw (c.mark_one.ensures, k) (only-marked _ _ _ _ (λ j t. c.requires.1 j (spread-among _ _ j c.args.shares.now _ _ (omega arith) c.loop-i-test.true t)))),

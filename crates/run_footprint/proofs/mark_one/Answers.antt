@@ -9,7 +9,7 @@ returns-then-is_chain c =
 
 pub hand_over-requires : goal.hand_over-requires
 hand_over-requires c =
-    (c.requires.0.tables.size, (plain_fits _ c.args.v.objects _ (sym c.is_chain.ensures ∙ c.if-is_chain.false) c.requires.1).0)
+    (plain_fits _ c.args.v.objects _ (sym c.is_chain.ensures ∙ c.if-is_chain.false) c.requires.1).0
 
 pub returns : goal.returns
 returns c =

@@ -1,24 +1,13 @@
 use Rattle.run_heap.specs.Views.{answered, present, stop_of, class_in}
 use Rattle.run_heap.proofs.Reading.{cell-absent, cell-is}
-use Rattle.std.proofs.Common.{◌≡◌, sym, ◌∙◌, arith}
+use Rattle.std.proofs.Common.{◌≡◌, sym, ◌∙◌}
 use Rattle.tables.specs.Tables.{place_at}
 use Rattle.run_heap.proofs.cell_at.Goals as goal
-
-pub class_of-c-requires : goal.class_of-c-requires
-class_of-c-requires c = (c.requires.0.tables.size, omega (arith, c.requires.0.objects, c.requires.1.0))
-
-pub place_at-p-requires : goal.place_at-p-requires
-place_at-p-requires c =
-    (c.requires.0.tables.size, (omega (arith, c.class_of-c.ensures, (c.requires.0.object c.args.i c.requires.1.0).class, c.requires.0.tables.classes), c.requires.1.1))
 
 pub returns-then-p-eq-NO_PLACE : goal.returns-then-p-eq-NO_PLACE
 unfolding answered present stop_of
 returns-then-p-eq-NO_PLACE c =
     let e : place_at c.args.work.now (class_in c.args.work.now c.args.i) c.args.f ≡ 255 = rw (← c.class_of-c.ensures) (sym c.place_at-p.ensures.0 ∙ c.if-p-eq-NO_PLACE.true) in rw (cell-absent c.args.work.now c.args.v.objects c.args.i c.args.f e)
-
-pub first_of-requires : goal.first_of-requires
-first_of-requires c =
-    (c.requires.0.tables.size, omega (arith, c.requires.0.objects, c.requires.1.0))
 
 pub returns : goal.returns
 unfolding answered present

@@ -1,9 +1,6 @@
-use Rattle.std.proofs.Common.{◌≡◌, ◌+◌, ◌-◌, ◌*◌, sym, refl, ◌∙◌, arith}
+use Rattle.std.proofs.Common.{sym, ◌∙◌}
 use Rattle.run_heap.proofs.Words.{fill-next, fill_end}
 use Rattle.run_heap.proofs.fill_words.Goals as goal
-
-pub loop-i-init : goal.loop-i-init
-loop-i-init c = (refl, let e : c.args.at + 0 * 4 ≡ c.args.at = omega arith in let f : c.args.n - 0 ≡ c.args.n = omega arith in rw (e, f))
 
 pub loop-i-preserved : goal.loop-i-preserved
 loop-i-preserved c = (c.put_word.auto.w ∙ c.loop-i.invariant.0, rw c.put_word.ensures (fill-next _ _ _ _ _ c.loop-i-test.true ∙ c.loop-i.invariant.1))

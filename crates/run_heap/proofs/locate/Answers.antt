@@ -11,7 +11,7 @@ returns-in_err-k c =
 
 pub held_cell-requires : goal.held_cell-requires
 held_cell-requires c =
-    ((c.requires.0.0.tables.size, found-small _ _ c.requires.0.0 (answered-ok _ _ c.in_ok-k.was c.find.ensures)), c.requires.0.1)
+    (found-small _ _ c.requires.0.0 (answered-ok _ _ c.in_ok-k.was c.find.ensures), c.requires.0.1)
 
 pub returns : goal.returns
 unfolding spot ◌>>=◌

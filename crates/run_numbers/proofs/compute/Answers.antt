@@ -1,12 +1,15 @@
 use borrow.Author.Tests.{ne_eqb}
+use Rattle.rules.specs.declared.Kind.TheVariants.{Add}
+use Rattle.rules.specs.Numbered.{number}
 use Rattle.rules.specs.Grammar.{add_kind}
+use Rattle.rules.proofs.KindNumbers.{same, apart}
 use Rattle.tables.specs.Decode.{operation_of}
 use Rattle.run_numbers.proofs.compute.Goals as goal
 
-pub returns-then-kind-eq-ADD : goal.returns-then-kind-eq-ADD
+pub returns-then-eq : goal.returns-then-eq
 unfolding operation_of
-returns-then-kind-eq-ADD c = rw c.if-kind-eq-ADD.true c.add.ensures
+returns-then-eq c = rw (same c.args.kind Add c.if-eq.ensures) c.add.ensures
 
 pub returns : goal.returns
 unfolding operation_of
-returns c = rw (ne_eqb _ add_kind c.if-kind-eq-ADD.false) c.subtract.ensures
+returns c = rw (ne_eqb (number c.args.kind) add_kind (apart c.args.kind Add c.if-eq.ensures)) c.subtract.ensures

@@ -1,5 +1,5 @@
 use native.Mathlib.Omega.{arith}
-use mathlib.Core.Path.{refl, sym, ◌∙◌}
+use mathlib.Core.Path.{sym, ◌∙◌}
 use Rattle.run_returns.proofs.Returning.{last-saved, end-done, end-stops, end-atoms, end-takes}
 use Rattle.run_steps.proofs.Doing.{does-answer, size, view-readable}
 use Rattle.run_heap.proofs.Reading.{passed-on}
@@ -11,15 +11,15 @@ returns-then-c-eq1 c = end-done c.requires c.if-c-eq1.true
 
 pub ensures_first-first-requires : goal.ensures_first-first-requires
 ensures_first-first-requires c =
-    (size c.requires, omega (arith, c.method_of-m.ensures, (last-saved c.requires c.if-c-eq1.false).1, c.requires.represents.tables.methods))
+    omega (arith, c.method_of-m.ensures, (last-saved c.requires c.if-c-eq1.false).1, c.requires.represents.tables.methods)
 
 pub ensures_count-n-requires : goal.ensures_count-n-requires
 ensures_count-n-requires c =
-    (size c.requires, omega (arith, c.method_of-m.ensures, (last-saved c.requires c.if-c-eq1.false).1, c.requires.represents.tables.methods))
+    omega (arith, c.method_of-m.ensures, (last-saved c.requires c.if-c-eq1.false).1, c.requires.represents.tables.methods)
 
 pub footprint-requires : goal.footprint-requires
 footprint-requires c =
-    let r = end-atoms c.requires c.if-c-eq1.false _ _ _ c.method_of-m.ensures c.ensures_first-first.ensures.0 c.ensures_count-n.ensures.0 in ((view-readable c.requires c.view_of-v.ensures, r.0), (r.1, refl))
+    let r = end-atoms c.requires c.if-c-eq1.false _ _ _ c.method_of-m.ensures c.ensures_first-first.ensures.0 c.ensures_count-n.ensures.0 in ((view-readable c.requires c.view_of-v.ensures, r.0), r.1)
 
 pub leave-requires : goal.leave-requires
 leave-requires c =

@@ -6,7 +6,7 @@ use Rattle.run_steps.proofs.release_step.Goals as goal
 
 pub mark-requires : goal.mark-requires
 mark-requires c =
-    let t = took-shares _ _ _ c.in_ok-n.was c.row_footprint.ensures.took in ((view-readable c.requires.0 c.view_of.ensures, (count-shares _ _ _ c.in_ok-n.was c.row_footprint.ensures.count, c.row_footprint.ensures.size)), release-fit c.requires.0 _ _ c.view_of.ensures t)
+    let t = took-shares _ _ _ c.in_ok-n.was c.row_footprint.ensures.took in ((view-readable c.requires.0 c.view_of.ensures, count-shares _ _ _ c.in_ok-n.was c.row_footprint.ensures.count), release-fit c.requires.0 _ _ c.view_of.ensures t)
 
 pub returns : goal.returns
 returns c =

@@ -28,11 +28,11 @@ returns-in_default c =
 
 pub cell_value-at-requires : goal.cell_value-at-requires
 cell_value-at-requires c =
-    let R = readable-kept c.loop-i.invariant.0 c.requires in (R.tables.size, cell-small _ _ R.tables R.object (found-is _ _ _ _ _ (answered-ok _ _ c.in-Ok.is c.cell_by.ensures)))
+    let R = readable-kept c.loop-i.invariant.0 c.requires in cell-small _ _ R.tables R.object (found-is _ _ _ _ _ (answered-ok _ _ c.in-Ok.is c.cell_by.ensures))
 
 pub hand_over-requires : goal.hand_over-requires
 hand_over-requires c =
-    let R = readable-kept c.loop-i.invariant.0 c.requires in (R.tables.size, cell-small _ _ R.tables R.object (found-is _ _ _ _ _ (answered-ok _ _ c.in-Ok.is c.cell_by.ensures)))
+    let R = readable-kept c.loop-i.invariant.0 c.requires in cell-small _ _ R.tables R.object (found-is _ _ _ _ _ (answered-ok _ _ c.in-Ok.is c.cell_by.ensures))
 
 pub loop-i-preserved : goal.loop-i-preserved
 loop-i-preserved c =

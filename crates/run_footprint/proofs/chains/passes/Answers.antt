@@ -21,7 +21,7 @@ returns-then-j-k c =
 
 pub cell_value-at-requires : goal.cell_value-at-requires
 cell_value-at-requires c =
-    (c.requires.0.tables.size, cell-small _ _ c.requires.0.tables c.requires.0.object (found-is _ _ _ _ _ (answered-ok _ _ c.in-Ok.is c.cell_of.ensures)))
+    cell-small _ _ c.requires.0.tables c.requires.0.object (found-is _ _ _ _ _ (answered-ok _ _ c.in-Ok.is c.cell_of.ensures))
 
 pub loop-i-preserved : goal.loop-i-preserved
 loop-i-preserved c =

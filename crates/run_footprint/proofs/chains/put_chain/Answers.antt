@@ -8,7 +8,7 @@ use Rattle.run_footprint.proofs.chains.put_chain.Goals as goal
 
 pub ends_at-requires : goal.ends_at-requires
 ends_at-requires c =
-    ((c.requires.0, omega (arith, c.field_of.ensures)), (omega (arith, c.requires.1.0.0), c.requires.1.0.1))
+    ((c.requires.0, omega (arith, c.field_of.ensures)), omega (arith, c.requires.1.0.0))
 
 pub returns-then-ends_at : goal.returns-then-ends_at
 unfolding stop_of

@@ -9,12 +9,12 @@ loop-i-init g c test h = refl
 
 pub returns-then-passes : goal.returns-then-passes
 returns-then-passes g c test h =
-    let e : length c.args.shares.now ≡ 8 = c.requires.0.1 in
+    let e : length c.args.shares.now ≡ 8 = c.told-shares in
     sym (any_here _ c.args.shares.now _ _ (omega arith) c.loop-i-test.true (sym (h _ _ c.passes.ensures) ∙ c.if-passes.true)) ∙ c.loop-i.invariant test h
 
 pub loop-i-preserved : goal.loop-i-preserved
 loop-i-preserved g c test h =
-    let e : length c.args.shares.now ≡ 8 = c.requires.0.1 in
+    let e : length c.args.shares.now ≡ 8 = c.told-shares in
     any-on _ c.args.shares.now _ _ (omega arith) c.loop-i-test.true (sym (h _ _ c.passes.ensures) ∙ c.if-passes.false) ∙ c.loop-i.invariant test h
 
 pub returns : goal.returns

@@ -9,4 +9,4 @@ returns-then-b-eq0 c =
 
 pub shared-requires : goal.shared-requires
 shared-requires c =
-    (omega (arith, c.requires.0.0), c.requires.0.1)
+    omega (arith, c.requires.0.0)

@@ -1,16 +1,8 @@
-use Rattle.std.proofs.Common.{◌≡◌, suc, ◌-◌, sym, ◌∙◌, arith}
+use Rattle.std.proofs.Common.{sym, ◌∙◌, arith}
 use Rattle.run_heap.specs.Views.{answered, stop_of}
 use Rattle.run_heap.proofs.Reading.{answered-ok, answered-err}
 use Rattle.run_heap.proofs.Walking.{whole-small, free-ok, free-stops, walk-next, walk-stops, walk-taken, walk-over}
 use Rattle.run_heap.proofs.chains.walk_by.Goals as goal
-
-pub loop-i-init : goal.loop-i-init
-loop-i-init g c test h =
-    let e : suc c.args.v.objects - 0 ≡ suc c.args.v.objects = omega arith in rw e
-
-pub whole_by-requires : goal.whole_by-requires
-whole_by-requires g c =
-    ((c.requires.0.0, c.cache_of-c.ensures), c.requires.0.1)
 
 pub returns-in_default : goal.returns-in_default
 returns-in_default g c test h =
@@ -23,7 +15,7 @@ returns-then-not-free g c test h =
 
 pub cell_value-at-requires : goal.cell_value-at-requires
 cell_value-at-requires g c =
-    (c.requires.0.0.tables.size, whole-small _ _ _ _ _ c.requires.0.0 (answered-ok _ _ c.in-Ok.is c.whole_by.ensures))
+    whole-small _ _ _ _ _ c.requires.0.0 (answered-ok _ _ c.in-Ok.is c.whole_by.ensures)
 
 pub loop-i-preserved : goal.loop-i-preserved
 loop-i-preserved g c test h =

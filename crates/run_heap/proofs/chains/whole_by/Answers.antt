@@ -12,7 +12,7 @@ returns-in_err-k c =
 
 pub held_cell-requires : goal.held_cell-requires
 held_cell-requires c =
-    ((c.requires.0.0.tables.size, cell-small _ _ c.requires.0.0.tables c.requires.0.0.object (found-is _ _ _ _ _ (answered-ok _ _ c.in_ok-k.was c.cell_by.ensures))), (omega arith, omega arith))
+    (cell-small _ _ c.requires.0.0.tables c.requires.0.0.object (found-is _ _ _ _ _ (answered-ok _ _ c.in_ok-k.was c.cell_by.ensures)), (omega arith, omega arith))
 
 pub returns : goal.returns
 unfolding whole_cell ◌>>=◌

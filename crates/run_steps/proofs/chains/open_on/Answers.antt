@@ -11,7 +11,7 @@ view_of-v-requires c =
 
 pub cell_value-n-requires : goal.cell_value-n-requires
 cell_value-n-requires c =
-    (size c.requires.ready, open-small c.requires)
+    open-small c.requires
 
 pub walk-requires : goal.walk-requires
 walk-requires c =
@@ -19,7 +19,7 @@ walk-requires c =
 
 pub x_at-y-requires : goal.x_at-y-requires
 x_at-y-requires c =
-    (size c.requires.ready, row_small c.requires.ready)
+    row_small c.requires.ready
 
 pub overflow_add-b : goal.overflow_add-b
 overflow_add-b c =

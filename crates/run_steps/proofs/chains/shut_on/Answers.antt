@@ -1,6 +1,6 @@
 use mathlib.Core.Path.{refl, sym}
 use Rattle.run_heap.proofs.Reading.{answered-ok, answered-err, passed-on}
-use Rattle.run_steps.proofs.Doing.{does-answer, size, frames-fit, view-readable, shut-operands, shut-small, shut-walked, shut-walk-stops}
+use Rattle.run_steps.proofs.Doing.{does-answer, frames-fit, view-readable, shut-operands, shut-small, shut-walked, shut-walk-stops}
 use Rattle.run_steps.proofs.chains.shut_on.Goals as goal
 
 pub view_of-v-requires : goal.view_of-v-requires
@@ -9,7 +9,7 @@ view_of-v-requires c =
 
 pub cell_value-requires : goal.cell_value-requires
 cell_value-requires c =
-    (size c.requires.ready, shut-small c.requires)
+    shut-small c.requires
 
 pub walk-requires : goal.walk-requires
 walk-requires c =

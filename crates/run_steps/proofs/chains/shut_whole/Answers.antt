@@ -1,10 +1,10 @@
-use Rattle.run_steps.proofs.Doing.{size, row_small, shut-small, shut-does, shut-lacks}
+use Rattle.run_steps.proofs.Doing.{row_small, shut-small, shut-does, shut-lacks}
 use native.Mathlib.Omega.{arith}
 use Rattle.run_steps.proofs.chains.shut_whole.Goals as goal
 
 pub halves_held-requires : goal.halves_held-requires
 halves_held-requires c =
-    (size c.requires.shutting.ready, shut-small c.requires.shutting)
+    shut-small c.requires.shutting
 
 pub returns-then-halves_held-lt-WHOLE : goal.returns-then-halves_held-lt-WHOLE
 returns-then-halves_held-lt-WHOLE c =
