@@ -242,25 +242,6 @@ module _ (w : List ℕ) (tables : Tables w) (c : ℕ) where
     pub within : head ≤ q.count
     pub closed : (k : ℕ) → k < head → (d : ℕ) → Member d (calls bs (get_or q.order k 0)) → Has q d
 
-  pub search-next :
-      (q r : Reached) (head : ℕ) → Search q head → head < q.count → Gathered w c (get_or q.order head 0) q r → Search r (head + 1)
-  search-next q r head S l G =
-      record {
-        seeking = G.seeking;
-        within = omega (arith, l, G.grows.more);
-        closed =
-            λ k b d i.
-            ⊎_elim
-            (λ v. G.all d (subst (λ n. Member d (calls bs n)) (G.grows.same k (omega (arith, v, l)) ∙ ap (λ k. get_or q.order k 0) v) i))
-            (λ v.
-            G.grows.keeps d
-            (S.closed k (less k b v) d (subst (λ n. Member d (calls bs n)) (G.grows.same k (omega (arith, less k b v, l))) i)))
-            (decide_eq k head);
-      }
-    where
-      less : (k : ℕ) → k < head + 1 → (k ≡ head → ⊥) → k < head
-      less k b v = omega (arith, b, v)
-
   complete : (q : Reached) (head : ℕ) → Search q head → q.count ≤ head → {n m : ℕ} → Reaches bs n m → Has q n → Has q m
   complete q head S l {n} (directly {b = b} i) h =
       let (k, x, y) = S.seeking.covered n h in S.closed k (omega (arith, x, l)) b (subst (λ n. Member b (calls bs n)) (sym y) i)

@@ -13,8 +13,9 @@ ghost use Rattle.bound_lines.specs.Lines.{OwnerFits, CallThere, owner_of, looked
 use bound_rows::Line;
 use queue::reach;
 use rules::Machine;
+use tables::Area;
 
-// The methods that were come to: which they are, and in which order.
+// The methods that were come to: which they are, and in which order. Arrays and a count, since the library has no heap.
 #[derive(Clone, Copy)]
 pub struct Reached {
     pub has: [bool; Machine::METHODS],
@@ -30,7 +31,7 @@ pub enum Seen {
 }
 
 // In each function the owner is the method that the line is in; in main there is none.
-fn look_call(work: &[u8], owner: Option<usize>, c: usize) -> Seen
+fn look_call(work: &Area, owner: Option<usize>, c: usize) -> Seen
     requires { Tables work.now × (OwnerFits owner × (c < method_count work.now)) }
     ensures { result ≡ looked_at (blocks_in work.now) (owner_of owner) (Line.Call c) }
 {
@@ -45,7 +46,8 @@ fn look_call(work: &[u8], owner: Option<usize>, c: usize) -> Seen
 }
 
 // Is the line one that leaves no bound, or the last of its block?
-fn look(work: &[u8], owner: Option<usize>, line: Line) -> Seen
+#[tactic(auto, unfolding(crate::specs::Lines::looked_at))]
+fn look(work: &Area, owner: Option<usize>, line: Line) -> Seen
     requires { Tables work.now × (OwnerFits owner × CallThere work.now line) }
     ensures { result ≡ looked_at (blocks_in work.now) (owner_of owner) line }
 {
@@ -58,7 +60,7 @@ fn look(work: &[u8], owner: Option<usize>, line: Line) -> Seen
 }
 
 // The first such line of the block that starts at this row.
-fn first_in(work: &[u8], owner: Option<usize>, start: usize) -> Option<usize>
+fn first_in(work: &Area, owner: Option<usize>, start: usize) -> Option<usize>
     requires { Tables work.now × (OwnerFits owner × (start < row_count work.now)) }
     ensures { result ≡ first_of work.now (owner_of owner) start }
 {
@@ -81,7 +83,7 @@ fn first_in(work: &[u8], owner: Option<usize>, start: usize) -> Option<usize>
 }
 
 // The first such line of the text.
-pub fn first_line(work: &[u8]) -> Option<usize>
+pub fn first_line(work: &Area) -> Option<usize>
     requires { Tables work.now }
     ensures { result ≡ place_of (first_repeating (program_in work.now)) }
 {

@@ -8,6 +8,7 @@ ghost use Rattle.bound_lines.specs.Reach.{added, Seeking, Has, Gathered, Reaches
 use crate::Reached;
 use bound_rows::Line;
 use rules::Machine;
+use tables::Area;
 
 // With the method c, if it is not there.
 fn add(q: Reached, c: usize) -> Reached
@@ -33,7 +34,7 @@ fn add(q: Reached, c: usize) -> Reached
 }
 
 // With all that the method m calls; c is where the search began.
-fn gather(work: &[u8], q: Reached, m: usize, c: usize) -> Reached
+fn gather(work: &Area, q: Reached, m: usize, c: usize) -> Reached
     requires { Tables work.now × (Seeking work.now c q × (Has q m × (m < method_count work.now))) }
     ensures { Gathered work.now c m q result }
 {
@@ -54,6 +55,7 @@ fn gather(work: &[u8], q: Reached, m: usize, c: usize) -> Reached
     }
 }
 
+#[tactic(auto, unfolding(crate::specs::Reach::begun))]
 fn begin(c: usize) -> Reached
     requires { c < most_methods }
     ensures { result ≡ begun c }
@@ -70,7 +72,7 @@ fn begin(c: usize) -> Reached
 }
 
 // What the method c is and reaches.
-pub fn reach(work: &[u8], c: usize) -> Reached
+pub fn reach(work: &Area, c: usize) -> Reached
     requires { Tables work.now × (c < method_count work.now) }
     ensures { Reaches work.now c result }
 {

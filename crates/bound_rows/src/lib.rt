@@ -7,6 +7,7 @@ ghost use Rattle.tables.specs.Tables.{Tables};
 ghost use Rattle.bound_rows.specs.Lines.{line_in};
 
 use rules::Kind;
+use tables::Area;
 
 #[derive(Clone, Copy)]
 pub enum Line {
@@ -17,15 +18,14 @@ pub enum Line {
 }
 
 // The row i.
-pub fn line_at(work: &[u8], i: usize) -> Line
+pub fn line_at(work: &Area, i: usize) -> Line
     requires { Tables work.now × (i < row_count work.now) }
     ensures { result ≡ line_in work.now i }
 {
-    let kind = tables::kind_at(work, i);
-    match kind {
-        Kind::CALL => Line::Call(tables::member_at(work, i)),
-        Kind::LOOP => Line::Loop,
-        Kind::END => Line::End,
+    match tables::row_kind(work, i) {
+        Kind::Call => Line::Call(tables::member_at(work, i)),
+        Kind::Loop => Line::Loop,
+        Kind::End => Line::End,
         _ => Line::Plain,
     }
 }

@@ -273,9 +273,6 @@ pub record Scanning (w : List ℕ) (o : Open) (row sum frames : ℕ) : Type 0 wh
   pub fits : sum ≤ suc most_bound
   pub part : (whole : Block) → PartAt w whole o → Part (blocks_in w) whole (block (program_in w) row) sum frames
 
-pub scan-start : (w : List ℕ) (o : Open) → o.row < row_count w → o.sum ≤ suc most_bound → Scanning w o o.row o.sum o.frames
-scan-start w o l k = record { within = l; fits = k; part = λ whole p. p.0 }
-
 module _ (w : List ℕ) (tables : Tables w) (marks : List Reckoned) (sound : SoundIn w marks) (o : Open) (row sum frames : ℕ)
     (I : Scanning w o row sum frames) (v : Line) (e : v ≡ line_in w row) where
   pub may-look : CallFits v × Counts marks sum

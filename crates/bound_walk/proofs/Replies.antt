@@ -13,7 +13,7 @@ use Rattle.rules.specs.Limits.{most_bound, most_methods}
 use Rattle.rules.specs.Syntax.{Row, Program}
 use Rattle.rules.specs.Bounds.{Block, block, main_bound, main_frames, first_repeating}
 use Rattle.rules.proofs.Lists.{T_true, F-false}
-use Rattle.tables.specs.Decode.{row_count, method_count, main_first, program_in}
+use Rattle.tables.specs.Decode.{method_count, main_first, program_in}
 use Rattle.tables.specs.Tables.{Tables}
 use Rattle.tables.proofs.Runs.{less-or-not}
 use Rattle.bound_laws.specs.Routes.{block_at, Reaches, directly, through, Loopless}
@@ -29,7 +29,7 @@ use Rattle.bound_walk.specs.declared.Halt.TheVariants as Halts
 use Rattle.bound_walk.specs.declared.Scanned.{Scanned}
 use Rattle.bound_walk.specs.declared.Refusal.TheVariants.{Unbounded, Passed}
 use Rattle.bound_walk.specs.Counting.{cap, fresh}
-use Rattle.bound_walk.specs.Walk.{Settled, Right, SoundIn, Ended, Waits, NotDone, Stops, Scans, is_new, NoBound, AllReckoned, reckoned_by, reckoned}
+use Rattle.bound_walk.specs.Walk.{Settled, Right, Ended, Waits, NotDone, Stops, Scans, is_new, NoBound, AllReckoned, reckoned_by, reckoned}
 use Rattle.bound_walk.proofs.Counted.{settled-itself, settled-loopless, whole_part}
 
 pub no-bound-answer : (w : List ℕ) → NoBound w → Err Unbounded ≡ reckoned (program_in w)
@@ -72,9 +72,6 @@ module _ (w : List ℕ) (tables : Tables w) (marks : List Reckoned) (R : AllReck
   -- main's rows
   abbrev body : Block
   body = block P (main_first w)
-
-  pub may-scan-main : (main : ℕ) → main ≡ main_first w → SoundIn w marks × ((main < row_count w) × (0 ≤ suc most_bound))
-  may-scan-main main at = (R.0.sound, (rw at tables.main_fits.0, omega arith))
 
   module _ (main : ℕ) (at : main ≡ main_first w) (s : Scanned) (S : Scans w marks (record { method = 0; row = main; sum = 0; frames = 0 }) s) where
     stops : Stops w marks body s.block s.found

@@ -8,11 +8,11 @@ use Rattle.std.specs.Prelude.{Option, Some}
 use lib.ListN.{length, get_or, set, length-set, replicate}
 use lib.Seq.{get_or-set_same, get_or-set_other}
 use Rattle.rules.specs.Base.{Member}
-use Rattle.rules.specs.Limits.{most_bound, most_methods}
+use Rattle.rules.specs.Limits.{most_methods}
 use Rattle.rules.specs.Syntax.{method_numbered}
 use Rattle.rules.specs.Bounds.{Block, callees}
 use Rattle.rules.proofs.Lists.{decide_eq}
-use Rattle.tables.specs.Decode.{row_count, method_count, first_row_at, program_in}
+use Rattle.tables.specs.Decode.{method_count, first_row_at, program_in}
 use Rattle.tables.specs.Tables.{Tables}
 use Rattle.bound_laws.specs.Routes.{block_at, calls, Reaches, directly, through}
 use Rattle.bound_laws.proofs.Blocks.{method-block, bound-law, frames-law, frames-most}
@@ -27,7 +27,7 @@ use Rattle.bound_walk.specs.declared.Halt.TheVariants as Halts
 use Rattle.bound_walk.specs.declared.Scanned.{Scanned}
 use Rattle.bound_walk.specs.declared.Route.{Route}
 use Rattle.bound_walk.specs.Counting.{cap, fresh}
-use Rattle.bound_walk.specs.Walk.{Settled, settled, Right, SoundIn, Part, PartAt, Ended, Waits, NotDone, HasLoop, Stops, Scans, Keeps, no_open, is_new, new_ones, Walking, NoBound, Turned, left, into, waiting, begun, FreshAt, Rested, Settles, Reckons}
+use Rattle.bound_walk.specs.Walk.{Settled, settled, Right, Part, PartAt, Ended, Waits, NotDone, HasLoop, Stops, Scans, Keeps, no_open, is_new, new_ones, Walking, NoBound, Turned, left, into, waiting, begun, FreshAt, Rested}
 use Rattle.bound_walk.proofs.Counted.{settled-clear, whole_part}
 
 -- COUNTING THE METHODS THAT ARE NOT VISITED
@@ -362,11 +362,6 @@ module _ (w : List ℕ) (tables : Tables w) where
         subst (Turned w r) (sym q)
         (waiting_turned r W top is-top s.block S.method c (get_or r.marks c fresh).visit (waits c f) refl)
 
-  pub may-scan :
-      (r : Route) → Walking w r → (k : ℕ) → k < r.depth →
-      SoundIn w r.marks × (((get_or r.blocks k no_open).row < row_count w) × ((get_or r.blocks k no_open).sum ≤ suc most_bound))
-  may-scan r W k l = (W.sound, ((W.parts k l).1, (W.parts k l).0.fits))
-
   -- A WALK BEGINS
   module _ (marks : List Reckoned) (R : Rested w marks) (start : ℕ) (f : FreshAt marks start) (h : start < method_count w) where
     abbrev start-route : Reckoned
@@ -428,10 +423,6 @@ module _ (w : List ℕ) (tables : Tables w) where
       record { sound = W.sound; idle = λ n q. let (k, l, _) = W.covered n q in omega (arith, l, e); size = W.marks_length }
 
 -- ALL METHODS
-pub already :
-    (w : List ℕ) (marks : List Reckoned) (n : ℕ) → Rested w marks → is_new (get_or marks n fresh).visit ≡ 0 → Settles w marks n (Some marks)
-already w marks n R z = (R, λ i z. z, z)
-
 fresh-replicate : (k n : ℕ) → get_or (replicate k fresh) n fresh ≡ fresh
 fresh-replicate zero n = refl
 fresh-replicate (suc k) zero = refl
@@ -450,16 +441,3 @@ rested-first w =
 
 abbrev pub AllBelow : ℕ → List Reckoned → Type 0
 AllBelow n marks = (i : ℕ) → i < n → is_new (get_or marks i fresh).visit ≡ 0
-
-pub settles_on :
-    (w : List ℕ) (marks : List Reckoned) (n : ℕ) (marks' : List Reckoned) → Settles w marks n (Some marks') →
-    AllBelow n marks → Rested w marks' × AllBelow (n + 1) marks'
-settles_on w marks n marks' (R, k, z) a =
-    (R, λ i l. ⊎_elim (λ q. subst (λ i. is_new (get_or marks' i fresh).visit ≡ 0) (sym q) z) (λ q. k i (a i (less i l q))) (decide_eq i n))
-  where
-    less : (i : ℕ) → i < n + 1 → (i ≡ n → ⊥) → i < n
-    less i l q = omega (arith, l, q)
-
-pub reckons-at :
-    (w : List ℕ) (marks : List Reckoned) (n : ℕ) → method_count w ≤ n → Rested w marks → AllBelow n marks → Reckons w (Some marks)
-reckons-at w marks n l R a = (R, λ i h. a i (omega (arith, h, l)))

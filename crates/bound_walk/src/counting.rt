@@ -9,6 +9,7 @@ ghost use Rattle.bound_walk.specs.Walk.{Scans, SoundIn};
 use crate::{Halt, Marks, Open, Reckoned, Scanned, Visit};
 use bound_rows::Line;
 use rules::Machine;
+use tables::Area;
 
 // Beyond the greatest bound only that it is passed.
 fn capped(n: u32) -> u32
@@ -18,6 +19,7 @@ fn capped(n: u32) -> u32
 }
 
 // A call of the method c, of which m is known: the sum and the frames with it.
+#[tactic(auto, unfolding(crate::specs::Counting::looked_call))]
 fn look_call(m: Reckoned, c: usize, sum: u32, frames: u32) -> Result<(u32, u32), Halt>
     requires { (sum ≤ suc most_bound) × BoundFits m.visit }
     ensures { result ≡ looked_call m.visit m.frames c sum frames }
@@ -29,6 +31,8 @@ fn look_call(m: Reckoned, c: usize, sum: u32, frames: u32) -> Result<(u32, u32),
 }
 
 // The sum and the frames with this row, or why the counting stops at it.
+// A match and no closure: what a row does to the sum and the frames is a value, and only a call looks further.
+#[tactic(auto, unfolding(crate::specs::Counting::looked))]
 fn look(marks: Marks, line: Line, sum: u32, frames: u32) -> Result<(u32, u32), Halt>
     requires { CallFits line × Counts marks sum }
     ensures { result ≡ looked marks line sum frames }
@@ -42,6 +46,7 @@ fn look(marks: Marks, line: Line, sum: u32, frames: u32) -> Result<(u32, u32), H
 }
 
 // The counting of the block o stops at a row. The `end` of a block is counted too.
+#[tactic(auto, unfolding(crate::specs::Counting::stopped_at))]
 fn stop_at(o: Open, row: usize, sum: u32, frames: u32, found: Halt) -> Scanned
     requires { sum ≤ suc most_bound }
     ensures { result ≡ stopped_at o row sum frames found }
@@ -62,7 +67,7 @@ fn stop_at(o: Open, row: usize, sum: u32, frames: u32, found: Halt) -> Scanned
 }
 
 // On from a row of a block.
-pub fn scan(work: &[u8], marks: Marks, o: Open) -> Scanned
+pub fn scan(work: &Area, marks: Marks, o: Open) -> Scanned
     requires { Tables work.now × (SoundIn work.now marks × ((o.row < row_count work.now) × (o.sum ≤ suc most_bound))) }
     ensures { Scans work.now marks o result }
 {

@@ -12,6 +12,7 @@ ghost use Rattle.bound_walk.specs.Walk.{Rested, Settles, FreshAt, Reckons, AllRe
 
 use counting::scan;
 use rules::Machine;
+use tables::Area;
 use turns::{begin, turn};
 
 #[derive(Clone, Copy)]
@@ -77,7 +78,7 @@ pub enum Refusal {
 }
 
 // What is known once a method and all that it reaches are reckoned, or that there is no bound.
-fn settle(work: &[u8], marks: Marks, start: usize) -> Option<Marks>
+fn settle(work: &Area, marks: Marks, start: usize) -> Option<Marks>
     requires { Tables work.now × (Rested work.now marks × (FreshAt marks start × (start < method_count work.now))) }
     ensures { Settles work.now marks start result }
 {
@@ -89,7 +90,7 @@ fn settle(work: &[u8], marks: Marks, start: usize) -> Option<Marks>
 }
 
 // The same of a method that may be reckoned already.
-fn settle_one(work: &[u8], marks: Marks, n: usize) -> Option<Marks>
+fn settle_one(work: &Area, marks: Marks, n: usize) -> Option<Marks>
     requires { Tables work.now × (Rested work.now marks × (n < method_count work.now)) }
     ensures { Settles work.now marks n result }
 {
@@ -100,7 +101,7 @@ fn settle_one(work: &[u8], marks: Marks, n: usize) -> Option<Marks>
 }
 
 // All methods are reckoned, or there is no bound.
-fn settle_all(work: &[u8]) -> Option<Marks>
+fn settle_all(work: &Area) -> Option<Marks>
     requires { Tables work.now }
     ensures { Reckons work.now result }
 {
@@ -115,7 +116,7 @@ fn settle_all(work: &[u8]) -> Option<Marks>
 }
 
 // Main's rows, where all methods are reckoned.
-fn reckon_main(work: &[u8], marks: Marks) -> Result<Bound, Refusal>
+fn reckon_main(work: &Area, marks: Marks) -> Result<Bound, Refusal>
     requires { Tables work.now × AllReckoned work.now marks }
     ensures { result ≡ reckoned (program_in work.now) }
 {
@@ -142,7 +143,7 @@ fn reckon_main(work: &[u8], marks: Marks) -> Result<Bound, Refusal>
 }
 
 // Main's bound and the most frames on a route of calls; or that a line leaves no bound, or that it is passed.
-pub fn reckon(work: &[u8]) -> Result<Bound, Refusal>
+pub fn reckon(work: &Area) -> Result<Bound, Refusal>
     requires { Tables work.now }
     ensures { result ≡ reckoned (program_in work.now) }
 {

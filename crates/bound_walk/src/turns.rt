@@ -1,6 +1,6 @@
 // The route: its top block is counted on, left when it is done, and waits for the methods that it calls.
-ghost use Rattle.std.specs.Prelude.{◌≡◌, suc, ◌≤◌, ◌<◌, length};
-ghost use Rattle.rules.specs.Limits.{work_bytes, most_methods};
+ghost use Rattle.std.specs.Prelude.{◌≡◌, suc, ◌≤◌, ◌<◌};
+ghost use Rattle.rules.specs.Limits.{most_methods};
 ghost use Rattle.tables.specs.Decode.{first_row_at};
 ghost use Rattle.tables.specs.Tables.{Tables};
 ghost use Rattle.bound_walk.specs.Walk.{Walking, Turned, left, into, waiting, begun};
@@ -8,8 +8,10 @@ ghost use Rattle.bound_walk.specs.Walk.{Walking, Turned, left, into, waiting, be
 use crate::counting::scan;
 use crate::{Halt, Marks, Open, Reckoned, Route, Visit};
 use rules::Machine;
+use tables::Area;
 
 // The block on top is done: its method has its bound.
+#[tactic(auto, unfolding(crate::specs::Walk::left))]
 fn leave(mut r: Route, top: usize, b: Open) -> Route
     requires { (b.method < most_methods) × (b.frames ≤ suc most_methods) }
     ensures { result ≡ left r top b }
@@ -23,6 +25,7 @@ fn leave(mut r: Route, top: usize, b: Open) -> Route
 }
 
 // The block on top waits for the method c, whose block is the new top.
+#[tactic(auto, unfolding(crate::specs::Walk::into))]
 fn enter(mut r: Route, top: usize, b: Open, c: usize, first: usize) -> Route
     requires { (top < most_methods) × (c < most_methods) }
     ensures { result ≡ into r top b c first }
@@ -43,8 +46,9 @@ fn enter(mut r: Route, top: usize, b: Open, c: usize, first: usize) -> Route
 }
 
 // The block on top waits for the method c: if it is on the route, there is no bound, and if not, it is entered.
-fn wait(work: &[u8], r: Route, top: usize, b: Open, c: usize, v: Visit) -> Option<Route>
-    requires { (length work.now ≡ work_bytes) × ((top < most_methods) × (c < most_methods)) }
+#[tactic(auto, unfolding(crate::specs::Walk::waiting))]
+fn wait(work: &Area, r: Route, top: usize, b: Open, c: usize, v: Visit) -> Option<Route>
+    requires { (top < most_methods) × (c < most_methods) }
     ensures { result ≡ waiting r top b c (first_row_at work.now c) v }
 {
     match v {
@@ -56,7 +60,7 @@ fn wait(work: &[u8], r: Route, top: usize, b: Open, c: usize, v: Visit) -> Optio
 }
 
 // One turn of the walk, or that there is no bound.
-pub fn turn(work: &[u8], r: Route) -> Option<Route>
+pub fn turn(work: &Area, r: Route) -> Option<Route>
     requires { Tables work.now × (Walking work.now r × (0 < r.depth)) }
     ensures { Turned work.now r result }
 {
@@ -70,8 +74,9 @@ pub fn turn(work: &[u8], r: Route) -> Option<Route>
 }
 
 // The walk at its start: only this method is on the route.
-pub fn begin(work: &[u8], mut marks: Marks, start: usize) -> Route
-    requires { (length work.now ≡ work_bytes) × (start < most_methods) }
+#[tactic(auto, unfolding(crate::specs::Walk::begun))]
+pub fn begin(work: &Area, mut marks: Marks, start: usize) -> Route
+    requires { start < most_methods }
     ensures { result ≡ begun marks start (first_row_at work.now start) }
 {
     let mut blocks = [Open {

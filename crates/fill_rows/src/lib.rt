@@ -5,10 +5,10 @@ ghost use Rattle.std.specs.Prelude.{◌≤◌};
 ghost use Rattle.rules.specs.Limits.{most_filled};
 ghost use Rattle.fill_rows.specs.Rewrites.{Spared, AtomsThere, SetPut};
 
-use tables::HeaderAt;
+use tables::{Area, HeaderAt};
 
 // The requires of the method m is k atoms from the row n on, the last that are written.
-pub fn put_set(work: &mut [u8], m: usize, n: usize, k: usize)
+pub fn put_set(work: &mut Area, m: usize, n: usize, k: usize)
     requires { Spared work.old m n × (k ≤ most_filled) × AtomsThere work.old n k }
     ensures { SetPut work.old m n k work.new }
 {

@@ -11,7 +11,7 @@ ghost use Rattle.filler.specs.Search.{Ready, AccessIs, Chosen, Tried, Seeking, F
 
 use check_equality::State;
 use rules::Machine;
-use tables::{AtomKind, Expr, HeaderAt};
+use tables::{Area, AtomKind, Expr, HeaderAt};
 
 // A method whose requires is sought: its number, the row of its first atom, the classes of `this` and of the parameter, how many fields
 // `this` has, and how many both have.
@@ -33,7 +33,7 @@ pub struct Access {
 }
 
 // How many fields a class has; none where there is no such class.
-fn fields_of(work: &[u8], c: usize) -> usize
+fn fields_of(work: &Area, c: usize) -> usize
     requires { Tables work.now }
     ensures { (result ≡ length (get_or (program_in work.now).classes c [])) × (result ≤ most_fields) }
 {
@@ -44,7 +44,7 @@ fn fields_of(work: &[u8], c: usize) -> usize
 }
 
 // The atom at place p.
-fn access_at(work: &[u8], s: Sought, p: usize) -> Access
+fn access_at(work: &Area, s: Sought, p: usize) -> Access
     requires { Ready work.now s × (1 ≤ p) × (p ≤ s.count) }
     ensures { AccessIs work.now s p result }
 {
@@ -61,7 +61,7 @@ fn access_at(work: &[u8], s: Sought, p: usize) -> Access
 }
 
 // The atom i of the set is that at place p.
-fn choose(work: &mut [u8], s: Sought, places: &mut [u8], i: usize, p: usize)
+fn choose(work: &mut Area, s: Sought, places: &mut [u8], i: usize, p: usize)
     requires { Ready work.old s × (1 ≤ p) × (p ≤ s.count) × (i < most_filled) × (length places.old ≡ places_bytes) }
     ensures { Chosen work.old s places.old i p work.new places.new }
 {
@@ -69,7 +69,7 @@ fn choose(work: &mut [u8], s: Sought, places: &mut [u8], i: usize, p: usize)
     write_rows::put_atom(
         work,
         s.first + i,
-        AtomKind::ACC,
+        AtomKind::Acc,
         Expr::Path(a.variable, a.field),
         Expr::Null,
     );
@@ -77,7 +77,7 @@ fn choose(work: &mut [u8], s: Sought, places: &mut [u8], i: usize, p: usize)
 }
 
 // Is the text accepted with the first k atoms of the set?
-fn accepted_with(work: &mut [u8], s: Sought, k: usize) -> bool
+fn accepted_with(work: &mut Area, s: Sought, k: usize) -> bool
     requires { Ready work.old s × (k ≤ most_filled) × AtomsThere work.old s.first k }
     ensures { Tried work.old s k result work.new }
 {
@@ -90,8 +90,8 @@ fn accepted_with(work: &mut [u8], s: Sought, k: usize) -> bool
 }
 
 // Is there a set with those chosen so far and `left` places more, from place p on, with which the text is accepted? The first is left in
-// `places`.
-fn find(work: &mut [u8], s: Sought, places: &mut [u8], left: usize, chosen: usize, p: usize) -> bool
+// `places`. No Option of a set: it stands in the area that C lends (`FillLeaves`).
+fn find(work: &mut Area, s: Sought, places: &mut [u8], left: usize, chosen: usize, p: usize) -> bool
     requires { Seeking work.old s places.old left chosen p }
     ensures { Finds work.old s places.old left chosen p result work.new places.new }
 {
@@ -109,7 +109,7 @@ fn find(work: &mut [u8], s: Sought, places: &mut [u8], left: usize, chosen: usiz
 }
 
 // What is sought for the method m, of this class and with a parameter of that.
-fn seek(work: &[u8], method: usize, class: usize, parameter: usize) -> Sought
+fn seek(work: &Area, method: usize, class: usize, parameter: usize) -> Sought
     requires { Fits work.now method }
     ensures { Ready work.now result × (result.method ≡ method) × (result.class ≡ class) × (result.parameter ≡ parameter) }
 {
@@ -124,10 +124,10 @@ fn seek(work: &[u8], method: usize, class: usize, parameter: usize) -> Sought
     }
 }
 
-// The first set, in `places`, that makes the tables those of an accepted text as the requires of this method, of this class and with a
-// parameter of that; or none.
+// Is there a set that makes the tables those of an accepted text as the requires of this method, of this class and with a parameter of that? The
+// first is left in `places`. No Option of a set, as for `find`.
 pub fn fill(
-    work: &mut [u8],
+    work: &mut Area,
     method: usize,
     class: usize,
     parameter: usize,

@@ -142,7 +142,7 @@ pub struct Shown {
     pub end: usize,
 }
 
-// The local of a line `var` whose word ends at r.
+// The local of a line `var` whose word ends at r. The results are a slice here and below: `print`, which programs call, takes one for C's `trial`.
 fn show_local(text: &[u8], out: &mut [u8], r: usize, results: &[u8], s: Shown) -> Shown
     requires { (r ≤ length text.now) × (length results.now ≡ results_bytes) × (s.count < values_shown) × (s.end + most_line ≤ length out.old) × (is_name (get_or (more (drop r text.now)) 1 []) ≡ true) }
     ensures { ShowsLocal results.now (get_or (more (drop r text.now)) 1 []) out.old s out.new result }
@@ -174,13 +174,12 @@ fn show_line(
 {
     let w = read_declarations::word_at(text, at);
     let r = w.end;
-    let kind = w.kind;
-    match kind {
-        Kind::METHOD | Kind::MAIN => Shown {
+    match Kind::numbered(w.kind) {
+        Kind::Method | Kind::Main => Shown {
             count: 0,
             end: first,
         },
-        Kind::VAR => show_local(text, out, r, results, s),
+        Kind::Var => show_local(text, out, r, results, s),
         _ => s,
     }
 }
@@ -231,7 +230,7 @@ fn put_answers(text: &[u8], out: &mut [u8], checked: u32, ran: u32, results: &[u
     show_variables(text, out, b, results)
 }
 
-// What the program of document 01 prints for the text; how many bytes.
+// What the program of document 01 prints for the text; how many bytes. Programs call it, with slices, so their lengths stay in the clause.
 pub fn print(text: &[u8], work: &mut [u8], results: &mut [u8], out: &mut [u8]) -> usize
     requires { (length work.old ≡ work_bytes) × (length results.old ≡ results_bytes) × (length out.old ≡ out_bytes) }
     ensures { Prints (printed text.now) out.new result }

@@ -8,6 +8,7 @@ ghost use Rattle.tables.specs.Tables.{Tables};
 ghost use Rattle.reckoner.specs.Reckoned.{verdict_of};
 
 use bound_walk::{Bound, Refusal as Why};
+use tables::Area;
 
 // Why there is no bound: a line leaves none, or it is passed.
 #[derive(Clone, Copy)]
@@ -16,7 +17,7 @@ pub enum Refusal {
     Passed,
 }
 
-pub fn bound(work: &[u8]) -> Result<Bound, Refusal>
+pub fn bound(work: &Area) -> Result<Bound, Refusal>
     requires { Tables work.now }
     ensures { verdict_of result ≡ bound_program (program_in work.now) }
 {

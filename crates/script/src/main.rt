@@ -4,7 +4,6 @@
 ghost use Rattle.std.specs.Prelude.{◌≡◌, ◌+◌, ◌≤◌, length, IfOk};
 ghost use Rattle.rules.specs.Printed.{printed};
 ghost use Rattle.printer.specs.Writes.{Prints};
-ghost use Rattle.printer.specs.Answers.{out_bytes};
 ghost use Rattle.script.specs.Inputs.{area_bytes};
 
 use rules::Machine;
@@ -44,8 +43,7 @@ fn read_input<R: Read>(reader: &mut R, area: &mut [u8]) -> io::Result<usize>
 }
 
 // What is printed for the text, at the start of `out`; how many bytes.
-fn answer(text: &[u8], out: &mut [u8]) -> usize
-    requires { length out.old ≡ out_bytes }
+fn answer(text: &[u8], out: &mut [u8; printer::OUT_BYTES]) -> usize
     ensures { Prints (printed text.now) out.new result }
 {
     let mut work = [0u8; Machine::WORK_BYTES];

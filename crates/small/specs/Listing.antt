@@ -13,9 +13,6 @@ most_line = 16
 abbrev pub most_body : ℕ
 most_body = 48
 
-abbrev pub text_bytes : ℕ
-text_bytes = 95
-
 abbrev pub out_bytes : ℕ
 out_bytes = 586
 

@@ -4,7 +4,7 @@
 ghost use Rattle.std.specs.Prelude.{◌≡◌, [], ◌∷◌, ◌+◌, ◌≤◌, ◌<◌, length};
 ghost use Rattle.printer.specs.Writes.{Writes, Prints};
 ghost use Rattle.small_list.specs.Small.{most_statements, statement, opening, body, text_of, accepted, line_of, printed};
-ghost use Rattle.small.specs.Listing.{most_line, most_body, text_bytes, out_bytes, IsPlace, places_in, Known, Adds, after, room, Lists};
+ghost use Rattle.small.specs.Listing.{most_line, most_body, IsPlace, places_in, Known, Adds, after, room, Lists};
 
 use rules::Machine;
 use std::io;
@@ -66,8 +66,7 @@ fn with_place(mut m: Places, place: u8) -> Places
 
 // WRITING: each function writes from a place of the area on and returns the place after
 
-fn put_opening(text: &mut [u8]) -> usize
-    requires { length text.old ≡ text_bytes }
+fn put_opening(text: &mut [u8; TEXT_BYTES]) -> usize
     ensures { Writes text.old 0 opening text.new result }
 {
     printer::put_word(
@@ -78,6 +77,7 @@ fn put_opening(text: &mut [u8]) -> usize
 }
 
 // The statement of this place, as a line.
+// A match and no array of texts: they are slices of several lengths, and the clause has each (`statement`).
 fn put_statement(text: &mut [u8], at: usize, place: u8) -> usize
     requires { IsPlace place × (at + most_line ≤ length text.old) }
     ensures { Writes text.old at (statement place) text.new result }
@@ -103,8 +103,8 @@ fn put_body(text: &mut [u8], at: usize, m: Places) -> usize
 }
 
 // The whole text of a main.
-fn put_text(text: &mut [u8], m: Places) -> usize
-    requires { Known m × (length text.old ≡ text_bytes) }
+fn put_text(text: &mut [u8; TEXT_BYTES], m: Places) -> usize
+    requires { Known m }
     ensures { Prints (text_of (places_in m)) text.new result }
 {
     let a = put_opening(text);
@@ -162,8 +162,7 @@ fn put_mains(out: &mut [u8], at: usize, left: usize, m: Places) -> usize
 }
 
 // The whole list; how many bytes.
-fn put_small(out: &mut [u8]) -> usize
-    requires { length out.old ≡ out_bytes }
+fn put_small(out: &mut [u8; OUT_BYTES]) -> usize
     ensures { Prints printed out.new result }
 {
     let m = none();

@@ -9,8 +9,9 @@ ghost use Rattle.tables.specs.Tables.{Tables};
 ghost use Rattle.station.specs.Station.{BoundAs, bound_found};
 
 use crate::{Refusal, Refused};
-use tables::Bytes;
+use tables::{Area, Bytes};
 
+// The bounds stay a slice, as the results do: as an array they would need a second test in `bound`, which cannot fail after `areas::fit`.
 fn put_bounds(bounds: &mut [u8], bound: u32, frames: u32)
     requires { length bounds.old ≡ bounds_bytes }
     ensures { bounds.new ≡ words_bytes (bound ∷ frames ∷ []) }
@@ -19,7 +20,7 @@ fn put_bounds(bounds: &mut [u8], bound: u32, frames: u32)
     tables::put_word(bounds, Bytes::WORD, frames);
 }
 
-fn bound_tables(work: &[u8], bounds: &mut [u8]) -> Result<(), Refused>
+fn bound_tables(work: &Area, bounds: &mut [u8]) -> Result<(), Refused>
     requires { Tables work.now × (length bounds.old ≡ bounds_bytes) }
     ensures { BoundAs (bound_numbers (bound_program (program_in work.now))) result bounds.new }
 {
@@ -48,7 +49,7 @@ fn bound_tables(work: &[u8], bounds: &mut [u8]) -> Result<(), Refused>
 // Of the tables, unless a refusal was found.
 pub fn bound_found(
     found: Result<(), Refused>,
-    work: &[u8],
+    work: &Area,
     bounds: &mut [u8],
 ) -> Result<(), Refused>
     requires { (found ≡ Ok tt → Tables work.now) × (length bounds.old ≡ bounds_bytes) }

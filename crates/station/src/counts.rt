@@ -1,7 +1,7 @@
 // Up to four scripts in one run, for `count`. No script sees another's share, so they run one after the other, each with its share for the heap;
 // zeros past their count.
 ghost use Rattle.std.specs.Prelude.{◌≡◌, ◌≤◌, ◌<◌, length};
-ghost use Rattle.rules.specs.Limits.{work_bytes, count_bytes, script_bytes, most_scripts, heap_objects};
+ghost use Rattle.rules.specs.Limits.{count_bytes, script_bytes, most_scripts, heap_objects};
 ghost use Rattle.rules.specs.Joint.{room_of};
 ghost use Rattle.rules.specs.Calls.{run_text_in};
 ghost use Rattle.rules.specs.Areas.{bytes_of_script};
@@ -10,7 +10,7 @@ ghost use Rattle.station.specs.Parts.{part_of, put_part, CountLeaves};
 use crate::numbers::pack;
 use crate::{Reply, check_text, run_found};
 use rules::Machine;
-use tables::Bytes;
+use tables::{Area, Bytes};
 
 // A joint run: how many scripts there are, and the rounds.
 #[derive(Clone, Copy)]
@@ -25,9 +25,9 @@ impl Joint {
 }
 
 // What run returns, then its results.
-fn count_script(text: &[u8], work: &mut [u8], rounds: u32, share: u32, part: &mut [u8])
-    requires { (share ≤ heap_objects) × (length work.old ≡ work_bytes) × (length part.old ≡ script_bytes) }
-    ensures { (part.new ≡ bytes_of_script (run_text_in (room_of share) text.now rounds)) × (length work.new ≡ work_bytes) }
+fn count_script(text: &[u8], work: &mut Area, rounds: u32, share: u32, part: &mut [u8])
+    requires { (share ≤ heap_objects) × (length part.old ≡ script_bytes) }
+    ensures { part.new ≡ bytes_of_script (run_text_in (room_of share) text.now rounds) }
 {
     let found = check_text(text, work);
     let at = Bytes::WORD;
@@ -37,9 +37,9 @@ fn count_script(text: &[u8], work: &mut [u8], rounds: u32, share: u32, part: &mu
 }
 
 // The part of the results that script i has: zeros past the count.
-fn count_part(j: Joint, i: usize, share: u32, text: &[u8], work: &mut [u8], results: &mut [u8])
-    requires { ((i < most_scripts) × (i < j.scripts → share ≤ heap_objects)) × (length work.old ≡ work_bytes) × (length results.old ≡ count_bytes) }
-    ensures { (results.new ≡ put_part results.old i (part_of j i share text.now)) × (length work.new ≡ work_bytes) }
+fn count_part(j: Joint, i: usize, share: u32, text: &[u8], work: &mut Area, results: &mut [u8])
+    requires { ((i < most_scripts) × (i < j.scripts → share ≤ heap_objects)) × (length results.old ≡ count_bytes) }
+    ensures { results.new ≡ put_part results.old i (part_of j i share text.now) }
 {
     let at = i * Machine::SCRIPT_BYTES;
     let end = at + Machine::SCRIPT_BYTES;
@@ -71,6 +71,9 @@ pub fn count(
     if !areas::fit(work, results, Machine::COUNT_BYTES) {
         return Reply::WRONG_LENGTH;
     }
+    let Some(work) = work.as_mut_array() else {
+        return Reply::WRONG_LENGTH;
+    };
     let shares = [share1, share2, share3, share4];
     if !areas::shares_fit(scripts, &shares) {
         areas::clear(work);

@@ -1,5 +1,6 @@
 // The calls of a host, `check`, `run`, `trial`, `lean`, `bound` and `fill`, and what the program prints. Each reads the text, does its work, and
-// clears the work area. The module `counts` has `count`.
+// clears the work area. The module `counts` has `count`. After `areas::fit` the lent work area is an `Area`, so the way out where it is none is never
+// taken.
 #![tactic(auto)]
 
 mod bounds;
@@ -9,7 +10,7 @@ mod leans;
 mod numbers;
 
 ghost use Rattle.std.specs.Prelude.{◌≡◌, Ok, ◌∷◌, ◌≤◌, length};
-ghost use Rattle.rules.specs.Limits.{work_bytes, results_bytes, heap_objects};
+ghost use Rattle.rules.specs.Limits.{results_bytes, heap_objects};
 ghost use Rattle.rules.specs.Answers.{then};
 ghost use Rattle.rules.specs.Reading.{read_text};
 ghost use Rattle.rules.specs.Rules.{check_program};
@@ -27,7 +28,7 @@ use fills::fill_text;
 use leans::lean_found;
 use numbers::{pack, told};
 use rules::{Machine, Number};
-use tables::{Bytes, Layout};
+use tables::{Area, Bytes, Layout};
 
 // Why a call is refused.
 #[derive(Clone, Copy)]
@@ -52,6 +53,7 @@ pub struct Refused {
     pub line: usize,
 }
 
+// Two conversions: those of both reasons would have to stand here as well if one were to serve both types.
 impl From<reader::RefusedLine> for Refused {
     ghost from_gives = { λ e r. r ≡ unread e };
 
@@ -89,9 +91,10 @@ impl Reply {
     const WRONG_SHARES: u32 = Number::WRONG_SHARES * Number::FACTOR;
 }
 
-// The steps taken and main's twelve values. The value i is that of main's variable i + 1: `this` and the parameter come first.
-fn put_results(work: &[u8], results: &mut [u8], steps: u32)
-    requires { (length work.now ≡ work_bytes) × (length results.old ≡ results_bytes) }
+// The steps taken and main's twelve values. The value i is that of main's variable i + 1: `this` and the parameter come first. The results stay
+// a slice, from here to C's calls: as an array they would need a test that cannot fail in each call, and in `count` at each script's part.
+fn put_results(work: &Area, results: &mut [u8], steps: u32)
+    requires { length results.old ≡ results_bytes }
     ensures { results.new ≡ words_bytes (steps ∷ main_values work.now) }
 {
     tables::put_word(results, 0, steps);
@@ -104,7 +107,7 @@ fn put_results(work: &[u8], results: &mut [u8], steps: u32)
 // READING AND CHECK
 
 // Number 10, then the rules, over the tables of a text that is read; `unframed` is the first line that number 10 refuses, if any.
-fn check_tables(work: &[u8], unframed: Option<usize>) -> Result<(), Refused>
+fn check_tables(work: &Area, unframed: Option<usize>) -> Result<(), Refused>
     requires { Tables work.now }
     ensures { numbers_found result ≡ verdict_numbers (then (framed_verdict unframed) (λ u. check_program (program_in work.now))) }
 {
@@ -119,8 +122,7 @@ fn check_tables(work: &[u8], unframed: Option<usize>) -> Result<(), Refused>
 }
 
 // Reads the text.
-fn read_text(text: &[u8], work: &mut [u8]) -> Result<(), Refused>
-    requires { length work.old ≡ work_bytes }
+fn read_text(text: &[u8], work: &mut Area) -> Result<(), Refused>
     ensures { Found (verdict_numbers (read_text text.now)) text.now result work.new }
 {
     reader::read(text, work)?;
@@ -128,8 +130,7 @@ fn read_text(text: &[u8], work: &mut [u8]) -> Result<(), Refused>
 }
 
 // Reads and checks the text.
-fn check_text(text: &[u8], work: &mut [u8]) -> Result<(), Refused>
-    requires { length work.old ≡ work_bytes }
+fn check_text(text: &[u8], work: &mut Area) -> Result<(), Refused>
     ensures { Found (check_text text.now) text.now result work.new }
 {
     let unframed = reader::read(text, work)?;
@@ -140,9 +141,9 @@ fn check_text(text: &[u8], work: &mut [u8]) -> Result<(), Refused>
 pub fn check(text: &[u8], work: &mut [u8]) -> u32
     ensures { CheckLeaves (check_call text.now work.old) result work.new }
 {
-    if work.len() != Machine::WORK_BYTES {
+    let Some(work) = work.as_mut_array() else {
         return Reply::WRONG_LENGTH;
-    }
+    };
     let f = told(check_text(text, work));
     areas::clear(work);
     pack(f)
@@ -151,7 +152,7 @@ pub fn check(text: &[u8], work: &mut [u8]) -> u32
 // RUN AND TRIAL
 
 // With a share of so many objects for the heap, and four times as many fields.
-fn run_tables(work: &mut [u8], steps: u32, share: u32, results: &mut [u8]) -> Reply
+fn run_tables(work: &mut Area, steps: u32, share: u32, results: &mut [u8]) -> Reply
     requires { (Tables work.old × (share ≤ heap_objects)) × (length results.old ≡ results_bytes) }
     ensures { RunAs (share_run share (program_in work.old) steps) result results.new work.new }
 {
@@ -166,12 +167,12 @@ fn run_tables(work: &mut [u8], steps: u32, share: u32, results: &mut [u8]) -> Re
 // Runs the tables, unless a refusal was found: then there are zeros in results.
 fn run_found(
     found: Result<(), Refused>,
-    work: &mut [u8],
+    work: &mut Area,
     steps: u32,
     share: u32,
     results: &mut [u8],
 ) -> Reply
-    requires { (found ≡ Ok tt → Tables work.old) × (share ≤ heap_objects) × (length work.old ≡ work_bytes) × (length results.old ≡ results_bytes) }
+    requires { (found ≡ Ok tt → Tables work.old) × (share ≤ heap_objects) × (length results.old ≡ results_bytes) }
     ensures { RunAs (unless_refused found (share_run share (program_in work.old) steps)) result results.new work.new }
 {
     if found.is_err() {
@@ -189,6 +190,9 @@ pub fn run(text: &[u8], work: &mut [u8], steps: u32, results: &mut [u8]) -> u32
     if !areas::fit(work, results, Machine::RESULTS_BYTES) {
         return Reply::WRONG_LENGTH;
     }
+    let Some(work) = work.as_mut_array() else {
+        return Reply::WRONG_LENGTH;
+    };
     let found = check_text(text, work);
     let f = run_found(found, work, steps, Machine::OBJECTS as u32, results);
     areas::clear(work);
@@ -196,12 +200,16 @@ pub fn run(text: &[u8], work: &mut [u8], steps: u32, results: &mut [u8]) -> u32
 }
 
 // Runs main as `run` does, of each text that the reader takes, accepted or not.
+// Not one with `run`: a function that takes the reading would have to say of it in a clause what `Found` says, and that is as long as this.
 pub fn trial(text: &[u8], work: &mut [u8], steps: u32, results: &mut [u8]) -> u32
     ensures { RunLeaves (trial_call text.now work.old steps results.old) result work.new results.new }
 {
     if !areas::fit(work, results, Machine::RESULTS_BYTES) {
         return Reply::WRONG_LENGTH;
     }
+    let Some(work) = work.as_mut_array() else {
+        return Reply::WRONG_LENGTH;
+    };
     let found = read_text(text, work);
     let f = run_found(found, work, steps, Machine::OBJECTS as u32, results);
     areas::clear(work);
@@ -218,6 +226,9 @@ pub fn lean(text: &[u8], work: &mut [u8], steps: u32, results: &mut [u8]) -> u32
     if !areas::fit(work, results, Machine::RESULTS_BYTES) {
         return Reply::WRONG_LENGTH;
     }
+    let Some(work) = work.as_mut_array() else {
+        return Reply::WRONG_LENGTH;
+    };
     let found = check_text(text, work);
     let f = lean_found(found, work, steps, results);
     areas::clear(work);
@@ -234,6 +245,9 @@ pub fn bound(text: &[u8], work: &mut [u8], bounds: &mut [u8]) -> u32
     if !areas::fit(work, bounds, Machine::BOUNDS_BYTES) {
         return Reply::WRONG_LENGTH;
     }
+    let Some(work) = work.as_mut_array() else {
+        return Reply::WRONG_LENGTH;
+    };
     let found = check_text(text, work);
     let f = told(bound_found(found, work, bounds));
     areas::clear(work);
@@ -250,6 +264,9 @@ pub fn fill(text: &[u8], work: &mut [u8], places: &mut [u8]) -> u32
     if !areas::fit(work, places, Machine::PLACES_BYTES) {
         return Reply::WRONG_LENGTH;
     }
+    let Some(work) = work.as_mut_array() else {
+        return Reply::WRONG_LENGTH;
+    };
     let f = told(fill_text(text, work, places));
     areas::clear(work);
     pack(f)

@@ -1,22 +1,11 @@
 use mathlib.Core.Path.{refl, sym, ap, ◌∙◌}
-use native.Mathlib.Omega.{arith}
 use Rattle.std.specs.Prelude.{Some}
 use Rattle.bound_lines.proofs.Firsts.{call-is-there, is-refused, is_last, is-passed}
 use Rattle.bound_lines.proofs.first_in.Goals as goal
 
-pub loop-row-init : goal.loop-row-init
-loop-row-init c = (c.requires.1.1, refl)
-
-pub line_at-line-requires : goal.line_at-line-requires
-line_at-line-requires c = (c.requires.0, c.loop-row.invariant.0)
-
 pub look-requires : goal.look-requires
 look-requires c =
     (c.requires.0, (c.requires.1.0, call-is-there _ c.requires.0 _ c.loop-row.invariant.0 _ c.line_at-line.ensures))
-
-pub line_at-requires : goal.line_at-requires
-line_at-requires c =
-    (c.requires.0.size, omega (arith, c.loop-row.invariant.0, c.requires.0.rows))
 
 pub returns-in-Repeats : goal.returns-in-Repeats
 returns-in-Repeats c =

@@ -6,14 +6,6 @@ use Rattle.bound_lines.proofs.first_line.Goals as goal
 pub loop-a-init : goal.loop-a-init
 loop-a-init c = place-whole _
 
-pub first_row_at-requires : goal.first_row_at-requires
-first_row_at-requires c =
-    (c.requires.size, omega (arith, c.method_count-a-end.ensures.0, c.requires.methods))
-
-pub first_in-requires : goal.first_in-requires
-first_in-requires c =
-    (c.requires, (omega (arith, c.method_count-a-end.ensures.0, c.requires.methods), rw c.first_row_at.ensures.0 (c.requires.method_fits c.loop-a.a (omega (arith, c.method_count-a-end.ensures.0))).block.0))
-
 pub returns-in-Some : goal.returns-in-Some
 returns-in-Some c =
     place_here _ _ (omega (arith, c.method_count-a-end.ensures.0)) _ c.first_row_at.ensures.0 _ c.first_in.ensures _ c.in-Some.is ∙ c.loop-a.invariant
@@ -21,10 +13,6 @@ returns-in-Some c =
 pub loop-a-preserved : goal.loop-a-preserved
 loop-a-preserved c =
     place-later _ _ (omega (arith, c.method_count-a-end.ensures.0)) _ c.first_row_at.ensures.0 _ c.first_in.ensures c.in_default.is ∙ c.loop-a.invariant
-
-pub first_in-requires-2 : goal.first_in-requires-2
-first_in-requires-2 c =
-    (c.requires, (tt, rw c.main_first.ensures.0 c.requires.main_fits.0))
 
 pub returns : goal.returns
 returns c =

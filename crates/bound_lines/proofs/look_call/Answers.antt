@@ -1,9 +1,5 @@
-use native.Mathlib.Omega.{arith}
 use Rattle.bound_lines.proofs.Firsts.{main-call, call_back, call-away}
 use Rattle.bound_lines.proofs.look_call.Goals as goal
-
-pub bounds-q-a : goal.bounds-q-a
-bounds-q-a c = omega (arith, (rw c.in-Some.is at c.requires.1.0))
 
 pub returns-then-q-a : goal.returns-then-q-a
 returns-then-q-a c = rw c.in-Some.is (call_back _ _ _ _ (c.reach-q.ensures _) c.if-q-a.true)

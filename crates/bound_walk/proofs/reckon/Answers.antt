@@ -3,6 +3,3 @@ use Rattle.bound_walk.proofs.reckon.Goals as goal
 
 pub returns-in_default : goal.returns-in_default
 returns-in_default c = no-bound-answer _ c.in_default.ensures
-
-pub reckon_main-requires : goal.reckon_main-requires
-reckon_main-requires c = (c.requires, c.in-Some.ensures)

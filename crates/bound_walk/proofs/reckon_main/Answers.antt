@@ -1,11 +1,8 @@
 use mathlib.Core.Path.{refl}
 use mathlib.Core.Logic.{⊎_elim}
 use native.Mathlib.Omega.{arith}
-use Rattle.bound_walk.proofs.Replies.{may-scan-main, main-waits, main-loops, frames_small, bounded-answer, passed-answer}
+use Rattle.bound_walk.proofs.Replies.{main-waits, main-loops, frames_small, bounded-answer, passed-answer}
 use Rattle.bound_walk.proofs.reckon_main.Goals as goal
-
-pub scan-s-requires : goal.scan-s-requires
-scan-s-requires c = (c.requires.0, may-scan-main _ c.requires.0 _ c.requires.1 _ c.main_first.ensures.0)
 
 pub returns-then-b : goal.returns-then-b
 returns-then-b c =

@@ -1,7 +1,5 @@
 use mathlib.Core.Path.{sym, ap, subst, ◌∙◌}
 use native.Mathlib.Omega.{arith}
-use lib.ListN.{length}
-use Rattle.tables.proofs.BytesRead.{put-half-length}
 use Rattle.write_rows.specs.Puts.{put_requires}
 use Rattle.fill_rows.specs.Rewrites.{SetPut}
 use Rattle.fill_rows.proofs.Rewritten.{set-put}
@@ -18,7 +16,7 @@ put_half-requires c =
 
 pub put_requires-requires : goal.put_requires-requires
 put_requires-requires c =
-    ((ap length c.put_half.ensures ∙ put-half-length _ _ _ ∙ c.requires.0.tables.size, omega (arith, c.requires.0.method, c.requires.0.tables.methods)), (omega (arith, c.requires.0.room), omega (arith, c.requires.1)))
+    (omega (arith, c.requires.0.method, c.requires.0.tables.methods), (omega (arith, c.requires.0.room), omega (arith, c.requires.1)))
 
 pub returns : goal.returns
 returns c =

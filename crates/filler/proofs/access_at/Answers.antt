@@ -3,7 +3,7 @@ use Rattle.filler.proofs.access_at.Goals as goal
 
 pub field_name_at-requires : goal.field_name_at-requires
 field_name_at-requires c =
-    (c.requires.0.spared.tables.size, this-small _ _ c.requires.0 _ c.requires.1 c.if-p-s.true)
+    this-small _ _ c.requires.0 _ c.requires.1 c.if-p-s.true
 
 pub returns-then-p-s : goal.returns-then-p-s
 returns-then-p-s c =
@@ -11,7 +11,7 @@ returns-then-p-s c =
 
 pub field_name_at-requires-2 : goal.field_name_at-requires-2
 field_name_at-requires-2 c =
-    (c.requires.0.spared.tables.size, parameter-small _ _ c.requires.0 _ c.requires.1 c.if-p-s.false c.requires.2)
+    parameter-small _ _ c.requires.0 _ c.requires.1 c.if-p-s.false c.requires.2
 
 pub returns : goal.returns
 returns c =

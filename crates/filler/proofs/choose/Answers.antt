@@ -12,7 +12,7 @@ use Rattle.filler.proofs.choose.Goals as goal
 -- `filler::choose` meets its contract. Assumes nothing.
 pub put_atom-requires : goal.put_atom-requires
 put_atom-requires c =
-    let ok = acc_ok _ _ c.access_at-a.ensures.few c.access_at-a.ensures.names in ((c.requires.0.spared.tables.size, omega (arith, c.requires.0.spared.room, c.requires.3)), (omega arith, (side_bytes _ ok.left, side_bytes _ ok.right)))
+    let ok = acc_ok _ _ c.access_at-a.ensures.few c.access_at-a.ensures.names in (omega (arith, c.requires.0.spared.room, c.requires.3), (side_bytes _ ok.left, side_bytes _ ok.right))
 
 pub returns : goal.returns
 returns c =

@@ -30,5 +30,5 @@ pub returns-in_default : goal.returns-in_default
 unfolding Small.statement bytes
 returns-in_default c =
     let b = place-bounds _ c.requires.0 in
-    let e : c.args.place ≡ 5 = omega (arith, b.0, b.1, c.in_default.in_default-own.rest.0.0.0.1, c.in_default.in_default-own.rest.0.0.1, c.in_default.in_default-own.rest.0.1, c.in_default.in_default-own.rest.1) in
+    let e : c.args.place ≡ 5 = omega (arith, b.0, b.1) in
     writes_as c.put_word-in_default.ensures (ap Small.statement (sym e))

@@ -7,11 +7,11 @@ use Rattle.small.proofs.put_text.Goals as goal
 
 pub put_body-b-requires : goal.put_body-b-requires
 put_body-b-requires c =
-    (c.requires.0, omega (arith, c.requires.1, c.put_opening-a.ensures.end, c.put_opening-a.ensures.size, opening-length))
+    (c.requires, omega (arith, c.told-text, c.put_opening-a.ensures.end, c.put_opening-a.ensures.size, opening-length))
 
 pub put_word-requires : goal.put_word-requires
 put_word-requires c =
-    omega (arith, c.requires.1, c.requires.0.few, c.put_opening-a.ensures.end, c.put_opening-a.ensures.size, c.put_body-b.ensures.end, c.put_body-b.ensures.size, opening-length, body-short (places_in c.args.m), places_count c.requires.0)
+    omega (arith, c.told-text, c.requires.few, c.put_opening-a.ensures.end, c.put_opening-a.ensures.size, c.put_body-b.ensures.end, c.put_body-b.ensures.size, opening-length, body-short (places_in c.args.m), places_count c.requires)
 
 pub returns : goal.returns
 unfolding closing bytes

@@ -12,10 +12,7 @@ run-r-requires c = (c.requires.0.0, (c.requires.0.1, omega (arith, c.requires.0.
 
 pub put_results-requires : goal.put_results-requires
 put_results-requires c =
-    (c.run-r.ensures.tables.size ∙ c.requires.0.0.size, c.requires.1)
-
-pub shape_of-work : goal.shape_of-work
-shape_of-work c = c.run-r.ensures.tables.size
+    c.requires.1
 
 pub shape_of-results : goal.shape_of-results
 shape_of-results c = c.put_results.auto.results

@@ -1,19 +1,12 @@
 use mathlib.Core.Path.{refl, sym, ◌∙◌}
 use mathlib.Core.Logic.{⊎_elim}
-use native.Mathlib.Omega.{arith}
 use Rattle.bound_lines.proofs.Seeks.{gather-start, gather-plain, gather-loop, called-small, gather-call, gather-end}
 use Rattle.bound_lines.proofs.queue.gather.Goals as goal
 use Rattle.bound_lines.proofs.queue.gather.Goals.{in-Plain, in-Call}
 
-pub first_row_at-row-requires : goal.first_row_at-row-requires
-first_row_at-row-requires c = (c.requires.0.size, omega (arith, c.requires.0.methods, c.requires.1.1.1))
-
 pub loop-d-init : goal.loop-d-init
 loop-d-init c =
     (c.requires.0, gather-start _ c.requires.0 _ _ _ c.requires.1.0 c.requires.1.1.0 c.requires.1.1.1 _ c.first_row_at-row.ensures.0)
-
-pub line_at-requires : goal.line_at-requires
-line_at-requires c = (c.loop-d.invariant.0, c.loop-d.invariant.1.within)
 
 pub add-k-requires : goal.add-k-requires
 add-k-requires c =

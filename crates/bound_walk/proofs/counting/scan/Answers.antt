@@ -1,12 +1,6 @@
 use mathlib.Core.Path.{refl}
-use Rattle.bound_walk.proofs.Counted.{scan-start, may-look, scan-on, scan-stops}
+use Rattle.bound_walk.proofs.Counted.{may-look, scan-on, scan-stops}
 use Rattle.bound_walk.proofs.counting.scan.Goals as goal
-
-pub loop-s-init : goal.loop-s-init
-loop-s-init c = scan-start _ _ c.requires.1.1.0 c.requires.1.1.1
-
-pub line_at-line-requires : goal.line_at-line-requires
-line_at-line-requires c = (c.requires.0, c.loop-s.invariant.within)
 
 pub look-requires : goal.look-requires
 look-requires c =
@@ -15,9 +9,6 @@ look-requires c =
 pub loop-s-preserved : goal.loop-s-preserved
 loop-s-preserved c =
     scan-on _ c.requires.0 c.args.marks c.requires.1.0 c.args.o _ _ _ c.loop-s.invariant _ c.line_at-line.ensures _ c.look.ensures _ _ _ c.in-Ok.is refl
-
-pub stop_at-requires : goal.stop_at-requires
-stop_at-requires c = c.loop-s.invariant.fits
 
 pub returns-in-Err : goal.returns-in-Err
 returns-in-Err c =

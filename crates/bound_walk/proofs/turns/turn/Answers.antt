@@ -1,10 +1,6 @@
 use native.Mathlib.Omega.{arith}
-use Rattle.bound_walk.proofs.Walks.{may-scan, may-leave, may-wait, turn-leaves, turn-stops, turn-waits}
+use Rattle.bound_walk.proofs.Walks.{may-leave, may-wait, turn-leaves, turn-stops, turn-waits}
 use Rattle.bound_walk.proofs.turns.turn.Goals as goal
-
-pub scan-s-requires : goal.scan-s-requires
-scan-s-requires c =
-    (c.requires.0, may-scan _ c.requires.0 _ c.requires.1.0 _ (omega (arith, c.requires.1.1)))
 
 pub leave-requires : goal.leave-requires
 leave-requires c =
@@ -20,7 +16,7 @@ bounds-r-c c =
 
 pub wait-requires : goal.wait-requires
 wait-requires c =
-    (c.requires.0.size, may-wait _ c.requires.0 _ c.requires.1.0 c.requires.1.1 _ c.scan-s.ensures _ c.in-Wait.is)
+    may-wait _ c.requires.0 _ c.requires.1.0 c.requires.1.1 _ c.scan-s.ensures _ c.in-Wait.is
 
 pub returns-in-End : goal.returns-in-End
 returns-in-End c =

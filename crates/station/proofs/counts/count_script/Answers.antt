@@ -6,7 +6,7 @@ use Rattle.station.proofs.counts.count_script.Goals as goal
 
 pub run_found-f-requires : goal.run_found-f-requires
 run_found-f-requires c =
-    (λ z. (c.check_text-found.ensures.taken z).1.tables, c.requires.0, c.check_text-found.ensures.size, rest-length c.args.part.now c.requires.2)
+    (λ z. (c.check_text-found.ensures.taken z).1.tables, c.requires.0, rest-length c.args.part.now c.requires.1)
 
 pub pack-returned-requires : goal.pack-returned-requires
 pack-returned-requires c =
@@ -14,4 +14,4 @@ pack-returned-requires c =
 
 pub returns : goal.returns
 returns c =
-    (c.put_word.ensures ∙ script-written c.args.part.now c.requires.2 (found-share c.args.rounds c.args.share c.check_text-found.ensures) (share-fits c.args.share c.requires.0 c.args.text.now c.args.rounds).shown c.run_found-f.ensures.0 c.run_found-f.ensures.1 c.pack-returned.ensures, c.run_found-f.ensures.2)
+    c.put_word.ensures ∙ script-written c.args.part.now c.requires.1 (found-share c.args.rounds c.args.share c.check_text-found.ensures) (share-fits c.args.share c.requires.0 c.args.text.now c.args.rounds).shown c.run_found-f.ensures.0 c.run_found-f.ensures.1 c.pack-returned.ensures

@@ -4,12 +4,12 @@ use Rattle.station.proofs.fills.fill_text.Goals as goal
 
 pub fill_star-requires : goal.fill_star-requires
 fill_star-requires c =
-    let x = starred _ c.in_ok-star.ensures.0 in (x.tables, x.within, x.spare, no-places _ c.requires.1 c.clear.ensures)
+    let x = starred _ c.in_ok-star.ensures in (x.tables, x.within, x.spare, no-places _ c.requires c.clear.ensures)
 
 pub returns-in_err-star : goal.returns-in_err-star
 returns-in_err-star c =
     let p = err_from_is_err_and c.from_residual.result c.from_residual.ensures.1 in
-    rw (p.1, p.2) (unstarred _ _ _ c.in_err-star.ensures.0 (no-places _ c.requires.1 c.clear.ensures), c.in_err-star.ensures.1)
+    rw (p.1, p.2) (unstarred _ _ _ c.in_err-star.ensures (no-places _ c.requires c.clear.ensures))
 
 pub returns : goal.returns
-returns c = (text-star (starred _ c.in_ok-star.ensures.0) _ c.fill_star.ensures.0, c.fill_star.ensures.1)
+returns c = text-star (starred _ c.in_ok-star.ensures) _ c.fill_star.ensures

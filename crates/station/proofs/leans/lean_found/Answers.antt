@@ -6,12 +6,12 @@ use Rattle.station.proofs.leans.lean_found.Goals as goal
 
 pub returns-then-is_err : goal.returns-then-is_err
 returns-then-is_err c =
-    let x = found-zeros _ _ _ (sym c.is_err.ensures.value ∙ c.if-is_err.true) c.requires.2 in
-    (c.told.ensures ∙ x.0, c.clear.ensures ∙ x.1, c.requires.1)
+    let x = found-zeros _ _ _ (sym c.is_err.ensures.value ∙ c.if-is_err.true) c.requires.1 in
+    (c.told.ensures ∙ x.0, c.clear.ensures ∙ x.1, c.told-work)
 
 pub lean_tables-requires : goal.lean_tables-requires
 lean_tables-requires c =
-    (c.requires.0 (found-nothing _ (sym c.is_err.ensures.value ∙ c.if-is_err.false)), c.requires.2)
+    (c.requires.0 (found-nothing _ (sym c.is_err.ensures.value ∙ c.if-is_err.false)), c.requires.1)
 
 pub returns : goal.returns
 returns c =

@@ -4,10 +4,7 @@ use Rattle.station.proofs.leans.lean_tables.Goals as goal
 
 pub put_results-requires : goal.put_results-requires
 put_results-requires c =
-    (c.run-r.ensures.tables.size ∙ c.requires.0.0.size, c.requires.1)
-
-pub shape_of-work : goal.shape_of-work
-shape_of-work c = c.run-r.ensures.tables.size
+    c.requires.1
 
 pub shape_of-results : goal.shape_of-results
 shape_of-results c = c.put_results.auto.results
