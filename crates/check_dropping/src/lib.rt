@@ -100,7 +100,7 @@ pub fn give_out<'a>(
     let m = State::LEFT + 2 * (known.bytes[State::FACTS] as usize);
     let l = State::LEFT + 2 * from;
     let mut gone = [false; State::SLOTS];
-    check_scans::drop_paths(known, out, marks, l, m, &mut gone);
+    check_scans::drop_paths(&known.keys, &known.bytes, out, marks, l, m, &mut gone);
     giving::forget(known, out, State::NO_VARIABLE, &mut gone, from);
 }
 

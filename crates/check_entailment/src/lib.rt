@@ -1,14 +1,15 @@
 // Atoms shown and added (11 to 14).
 #![tactic(auto)]
 
-ghost use Rattle.std.specs.Prelude.{◌≡◌, List, not, ◌&&◌};
+ghost use Rattle.std.specs.Prelude.{◌≡◌, List, not, ◌&&◌, ℕ, ◌≤◌};
 ghost use Rattle.std.proofs.Math.Option.{none};
+ghost use Rattle.rules.specs.Limits.{most_permissions};
 ghost use Rattle.rules.specs.Syntax as Syntax;
 ghost use Rattle.rules.specs.State as Rules;
 ghost use Rattle.rules.specs.State.{equal_in};
 ghost use Rattle.check_equality.specs.Keys.{term_of, meaning};
 ghost use Rattle.check_equality.specs.Links.{rel_of};
-ghost use Rattle.check_state.specs.States.{state_of, permit_of, IsKind};
+ghost use Rattle.check_state.specs.States.{Wf, state_of, entries, permit_of, IsKind};
 ghost use Rattle.check_entries.specs.Entries.{LeftFits};
 ghost use Rattle.check_entailment.specs.Answers.{Adds, answered, most_serving, Takes, ShowsAtom, sides_of, resolved_sides, ShowsRelation, AddsAtom};
 
@@ -27,30 +28,39 @@ pub enum Refusal {
 }
 
 // One more entry, of the kind k: a number, since it is a byte of the state, which is fixed memory.
-pub fn add_permission(known: &mut Known, k: u8, x: u8, f: u8) -> Result<(), Refusal>
-    requires { IsKind k }
-    ensures { Adds (Rules.add_permission (Rules.entry (permit_of k) x f) (state_of known.old.keys known.old.bytes)) result known.new.keys known.new.bytes }
+pub fn add_permission(b: &mut [u8; State::BYTES], k: u8, x: u8, f: u8) -> Result<(), Refusal>
+    requires { (entries b.old ≤ most_permissions) × IsKind k }
+    ensures { (key : List ℕ) → Wf key b.old → Adds (Rules.add_permission (Rules.entry (permit_of k) x f) (state_of key b.old)) result key b.new }
 {
-    let n = known.bytes[State::ENTRIES] as usize;
+    let n = b[State::ENTRIES] as usize;
     if Machine::PERMISSIONS <= n {
         return Err(Refusal::Full);
     }
-    known.bytes[State::VARIABLES + n] = x;
-    known.bytes[State::FIELDS + n] = f;
-    known.bytes[State::KINDS + n] = k;
-    known.bytes[State::ENTRIES] = (n + 1) as u8;
+    b[State::VARIABLES + n] = x;
+    b[State::FIELDS + n] = f;
+    b[State::KINDS + n] = k;
+    b[State::ENTRIES] = (n + 1) as u8;
     Ok(())
+}
+
+// The same of what is known.
+#[tactic(auto, using(check_state::proofs::Whole::whole))]
+pub fn add_entry(known: &mut Known, k: u8, x: u8, f: u8) -> Result<(), Refusal>
+    requires { IsKind k }
+    ensures { Adds (Rules.add_permission (Rules.entry (permit_of k) x f) (state_of known.old.keys known.old.bytes)) result known.new.keys known.new.bytes × (known.new.keys ≡ known.old.keys) }
+{
+    add_permission(&mut known.bytes, k, x, f)
 }
 
 // `read x f`: the first `read` of an equal path is an `acc` then, or else there is one more entry.
 fn add_read(known: &mut Known, x: u8, f: u8) -> Result<(), Refusal>
-    ensures { Adds (Rules.add_own Syntax.read x f (state_of known.old.keys known.old.bytes)) result known.new.keys known.new.bytes }
+    ensures { Adds (Rules.add_own Syntax.read x f (state_of known.old.keys known.old.bytes)) result known.new.keys known.new.bytes × (known.new.keys ≡ known.old.keys) }
 {
     let n = known.bytes[State::ENTRIES] as usize;
     let k = check_equality::variable_key(x);
     let i = check_state::listed_entry(known, State::READ, State::READ, k, f);
     if n <= i {
-        return add_permission(known, State::READ, x, f);
+        return add_entry(known, State::READ, x, f);
     }
     known.bytes[State::KINDS + i] = State::ACC;
     Ok(())
@@ -59,12 +69,12 @@ fn add_read(known: &mut Known, x: u8, f: u8) -> Result<(), Refusal>
 // `acc x f`, `read x f` or `chain x f`, by its kind.
 pub fn add_own(known: &mut Known, k: u8, x: u8, f: u8) -> Result<(), Refusal>
     requires { IsKind k }
-    ensures { AddsAtom known.old.keys known.old.bytes (Syntax.own (permit_of k) x f) result known.new.keys known.new.bytes }
+    ensures { AddsAtom known.old.keys known.old.bytes (Syntax.own (permit_of k) x f) result known.new.keys known.new.bytes × (known.new.keys ≡ known.old.keys) }
 {
     if k == State::READ {
         return add_read(known, x, f);
     }
-    add_permission(known, k, x, f)
+    add_entry(known, k, x, f)
 }
 
 // One more fact, of terms by their keys.

@@ -1,7 +1,7 @@
 // What becomes of a state when paths or a variable go: the remainder, removing, `set`; the state that knows nothing.
 #![tactic(auto, using(check_state::proofs::Whole::whole))]
 
-ghost use Rattle.std.specs.Prelude.{◌≡◌, true, ◌+◌, get_or};
+ghost use Rattle.std.specs.Prelude.{◌≡◌, true, ◌+◌, get_or, List, ℕ};
 ghost use Rattle.check_equality.specs.Layout.{variables_at, fields_at};
 ghost use Rattle.check_equality.specs.Links.{Header};
 ghost use Rattle.check_state.specs.States.{is_path_at, state_of};
@@ -44,13 +44,20 @@ pub fn nothing() -> Known
     Known { keys, bytes }
 }
 
+// Nothing is known then, whatever the bytes held, by each header of keys.
+pub fn clear(b: &mut [u8; State::BYTES])
+    ensures { (key : List ℕ) → Header key → Becomes Rules.empty key b.new }
+{
+    check_labels::fresh(b);
+    b[State::FACTS] = 0;
+    b[State::ENTRIES] = 0;
+}
+
 // All that is known is forgotten.
-pub fn clear(known: &mut Known)
+pub fn forget_all(known: &mut Known)
     ensures { Becomes Rules.empty known.new.keys known.new.bytes }
 {
-    check_labels::fresh(&mut known.bytes);
-    known.bytes[State::FACTS] = 0;
-    known.bytes[State::ENTRIES] = 0;
+    clear(&mut known.bytes);
 }
 
 // The paths of the entries that are out, whose places are marked, are dropped, unless all of them are still listed.

@@ -1,17 +1,14 @@
 -- Formulas of the tables, with other variables for some.
-use Rattle.std.specs.Prelude.{◌≡◌, true, List, map, ℕ, ⊤}
-use Rattle.rules.specs.Syntax.{Atom, Formula, own, cmp}
+use Rattle.std.specs.Prelude.{◌≡◌, true, List, map, ℕ}
+use Rattle.rules.specs.Syntax.{Atom, Formula}
 use Rattle.rules.specs.State as Rules
 use Rattle.rules.specs.State.{equal_in, show_from}
 use Rattle.rules.specs.Rules.{actual, subst_atom}
 use Rattle.tables.specs.Decode as Decode
 use Rattle.tables.specs.Decode.{is_permission, atom_at, atoms_from}
-use Rattle.check_equality.specs.Keys.{meaning}
-use Rattle.check_equality.specs.Links.{rel_of}
 use Rattle.check_state.specs.States.{state_of, permit_of, IsKind}
 use Rattle.check_entries.specs.Entries.{left_of}
 use Rattle.check_entailment.specs.Answers.{Answer, answered}
-use Rattle.check_formulas.specs.declared.Atom as Declared
 
 -- the bytes of a side
 abbrev pub side_bytes : ℕ
@@ -24,16 +21,6 @@ actual_atom w y z x a = subst_atom (actual y z x) (atom_at w a)
 -- e is the kind of the entries for a permission of the kind k of atoms
 abbrev pub EntryKind : ℕ → ℕ → Type 0
 EntryKind k e = (is_permission k ≡ true) × (IsKind e × (permit_of e ≡ Decode.permit_of k))
-
--- an atom as it is read: a permission by the kind of its entries, or a relation by its terms
-unfoldable pub atom_of : Declared.Atom → Atom ℕ
-atom_of (Declared.Atom.Own k x f) = own (permit_of k) x f
-atom_of (Declared.Atom.Cmp apart l r) = cmp (rel_of apart) (meaning l) (meaning r)
-
--- the kind of a permission is one of entries
-unfoldable pub KindFits : Declared.Atom → Type 0
-KindFits (Declared.Atom.Own k x f) = IsKind k
-KindFits (Declared.Atom.Cmp apart l r) = ⊤
 
 -- n atoms from the atom a on, with y, z and x for `this`, w and `result`
 unfoldable pub formula : List ℕ → ℕ → ℕ → ℕ → ℕ → ℕ → Formula ℕ

@@ -14,7 +14,7 @@ ghost use Rattle.check_state.specs.States.{state_of, kind_at};
 ghost use Rattle.check_state.specs.Questions.{Bytes};
 ghost use Rattle.check_entries.specs.Entries.{LeftFits};
 ghost use Rattle.check_entailment.specs.Answers.{Adds, ShowsAtom, AddsAtom};
-ghost use Rattle.check_formulas.specs.Formulas.{side_bytes, formula, actual_atom, atom_of, EntryKind, KindFits, Shows};
+ghost use Rattle.check_formulas.specs.Formulas.{side_bytes, formula, actual_atom, EntryKind, Shows};
 
 use check_entailment::Refusal;
 use check_equality::{State, Term};
@@ -82,33 +82,7 @@ fn entry_kind(k: AtomKind) -> Option<u8>
     }
 }
 
-// An atom: a permission's kind of entries, its variable and its field; or a relation's sides, and whether it is `ne`.
-enum Atom {
-    Own(u8, u8, u8),
-    Cmp(bool, Term, Term),
-}
-
-// The atom a, with y, z and x for `this`, w and `result`.
-fn atom_at(w: &Area, a: usize, y: u8, z: u8, x: u8) -> Atom
-    requires { a < most_atom_rows }
-    ensures { KindFits result × (atom_of result ≡ actual_atom w.now y z x a) }
-{
-    let k = tables::atom_kind(w, a);
-    match entry_kind(k) {
-        Some(kind) => {
-            let v = tables::atom_variable(w, a) as u8;
-            let f = tables::atom_field(w, a) as u8;
-            Atom::Own(kind, actual(y, z, x, v), f)
-        }
-        None => {
-            let l = left(w, a, y, z, x);
-            Atom::Cmp(k != AtomKind::Eq, l, right(w, a, y, z, x))
-        }
-    }
-}
-
 // Shows the atom a, by what is left of the entries.
-#[tactic(auto, unfolding(crate::specs::Formulas::atom_of, crate::specs::Formulas::KindFits))]
 fn show_at(
     w: &Area,
     a: usize,
@@ -121,9 +95,16 @@ fn show_at(
     requires { (a < most_atom_rows) × LeftFits known.now.bytes left.old }
     ensures { LeftFits known.now.bytes left.new × ShowsAtom known.now.keys known.now.bytes left.old (actual_atom w.now y z x a) result left.new }
 {
-    match atom_at(w, a, y, z, x) {
-        Atom::Own(k, v, f) => check_entailment::show_access(known, left, k, v, f),
-        Atom::Cmp(apart, l, r) => check_entailment::show_relation(known, apart, l, r),
+    let k = tables::kind_of_atom(w, a);
+    match entry_kind(k) {
+        Some(kind) => {
+            let v = actual(y, z, x, tables::atom_variable(w, a) as u8);
+            check_entailment::show_access(known, left, kind, v, tables::atom_field(w, a) as u8)
+        }
+        None => {
+            let l = crate::left(w, a, y, z, x);
+            check_entailment::show_relation(known, k != AtomKind::Eq, l, right(w, a, y, z, x))
+        }
     }
 }
 
@@ -148,14 +129,20 @@ pub fn show(
 }
 
 // Adds the atom a.
-#[tactic(auto, unfolding(crate::specs::Formulas::atom_of, crate::specs::Formulas::KindFits))]
 fn add_at(w: &Area, a: usize, y: u8, z: u8, x: u8, known: &mut Known) -> Result<(), Refusal>
     requires { a < most_atom_rows }
     ensures { AddsAtom known.old.keys known.old.bytes (actual_atom w.now y z x a) result known.new.keys known.new.bytes }
 {
-    match atom_at(w, a, y, z, x) {
-        Atom::Own(k, v, f) => check_entailment::add_own(known, k, v, f),
-        Atom::Cmp(apart, l, r) => check_entailment::add_relation(known, apart, l, r),
+    let k = tables::kind_of_atom(w, a);
+    match entry_kind(k) {
+        Some(kind) => {
+            let v = actual(y, z, x, tables::atom_variable(w, a) as u8);
+            check_entailment::add_own(known, kind, v, tables::atom_field(w, a) as u8)
+        }
+        None => {
+            let l = left(w, a, y, z, x);
+            check_entailment::add_relation(known, k != AtomKind::Eq, l, right(w, a, y, z, x))
+        }
     }
 }
 

@@ -99,7 +99,7 @@ fn first_named(known: &Known, n: usize, k: u64, a: u8) -> usize
 }
 
 // (d) Are the terms of t and u ~ the variables of two entries for one field, one of them an `acc`? Only an entry whose variable is ~ to one of them is
-// tried with those before it, and none before both terms had one.
+// tried with those before it, and none before both terms had one. Left by its label, as document 01 asks of this search.
 fn two_entries(known: &Known, n: usize, t: u64, x: u8, u: u64, y: u8) -> bool
     requires { Labelled known.now.keys known.now.bytes (slots_in known.now.bytes) t x × Labelled known.now.keys known.now.bytes (slots_in known.now.bytes) u y × (n ≤ most_permissions) }
     ensures { Told known.now.keys known.now.bytes (slots_in known.now.bytes) (λ same. result ≡ two_entries same (permissions_in known.now.bytes n) (term_of t) (term_of u)) }
@@ -107,18 +107,20 @@ fn two_entries(known: &Known, n: usize, t: u64, x: u8, u: u64, y: u8) -> bool
     let s = first_named(known, n, t, x);
     let v = first_named(known, n, u, y);
     let first = s.min(v);
-    for i in s.max(v)..n {
+    let mut found = false;
+    'entries: for i in s.max(v)..n {
         let p = check_state::variable_is(known, known.bytes[State::VARIABLES + i], t, x);
         let q = check_state::variable_is(known, known.bytes[State::VARIABLES + i], u, y);
         if p | q {
             for j in first..i {
                 if pair(known, j, i, t, x, u, y, p, q) {
-                    return true;
+                    found = true;
+                    break 'entries;
                 }
             }
         }
     }
-    false
+    found
 }
 
 // Is the inequality of two terms shown? The ways (a), (c), (d) and then (b).

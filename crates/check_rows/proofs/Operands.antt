@@ -1,15 +1,13 @@
 -- The rule of a row from its operands.
 use mathlib.Core.Path.{◌≡◌, refl, ap, ◌∙◌}
 use mathlib.Core.Logic.{◌⊎◌}
+use mathlib.Core.Bool.{Bool, true, false, ◌||◌}
+use borrow.Author.Tests.{eqb-false}
 use mathlib.Core.List.{List}
 use Prim.Native.Nat.{ℕ, ◌+◌, ◌≤◌, ◌<◌}
 use native.Mathlib.Omega.{arith}
-use borrow.Author.Rules.{rules}
-use lib.Dec.{T}
-use Rattle.rules.specs.declared.Kind.{Kind}
-use Rattle.rules.specs.declared.Kind.TheVariants as Kinds
+use lib.Dec.{T, eqb}
 use Rattle.rules.specs.Grammar.{Let, If, Loop, IsStatementNumber, GoesOn, statement_number, is_closing_number}
-use Rattle.rules.specs.Numbered.{number}
 use Rattle.rules.specs.Syntax as Syntax
 use Rattle.rules.specs.State as Rules
 use Rattle.rules.specs.Rules.{rule, new_rule, call_rule, opposite}
@@ -64,10 +62,23 @@ pub call_at :
 unfolding rule
 call_at w x x' y y' m m' z z' s a b c d h = rw (a, b, c, d, method-get w m h)
 
--- a row of any of these kinds is no statement that goes on
-pub stays :
-    {k : Kind} {n : ℕ} → number k ≡ n →
-    (k ≡ Kinds.Class) ⊎ ((k ≡ Kinds.Field) ⊎ ((k ≡ Kinds.Method) ⊎ ((k ≡ Kinds.Requires) ⊎ ((k ≡ Kinds.Ensures) ⊎ ((k ≡ Kinds.Main) ⊎ ((k ≡ Kinds.Var) ⊎ ((k ≡ Kinds.Return) ⊎ ((k ≡ Kinds.If) ⊎ ((k ≡ Kinds.Else) ⊎ ((k ≡ Kinds.Join) ⊎ ((k ≡ Kinds.End) ⊎ ((k ≡ Kinds.Loop) ⊎ (k ≡ Kinds.Again))))))))))))) →
-    IsStatementNumber n → GoesOn n → ⊥
+above : (k n : ℕ) → n ≤ k → (k ≡ n → ⊥) → n + 1 ≤ k
+above k n h d = omega arith
+
+neither : (a b : Bool) → (a || b) ≡ false → (a ≡ false) × (b ≡ false)
+neither false b e = (refl, e)
+neither true b e = absurd (let z : ◌≡◌ {A = ℕ} 0 1 = cc in omega arith)
+
+-- each kind that goes on has its rule
+pub no_kind :
+    (k : ℕ) → IsStatementNumber k → GoesOn k → (k ≡ 8 → ⊥) → (k ≡ 9 → ⊥) → (k ≡ 10 → ⊥) → (k ≡ 11 → ⊥) → (k ≡ 13 → ⊥) → (k ≡ 14 → ⊥) →
+    (k ≡ 19 → ⊥) → (k ≡ 20 → ⊥) → (k ≡ 23 → ⊥) → (k ≡ 24 → ⊥) → ⊥
 unfolding is_closing_number statement_number
-stays e o s g = search rules
+no_kind k (low, high) (o, i, p, r) a b c d f g m n s t =
+    let (x, others) = neither (eqb k 16) (eqb k 17 || (eqb k 18 || eqb k 22)) o in
+    let (y, more) = neither (eqb k 17) (eqb k 18 || eqb k 22) others in
+    let (z, v) = neither (eqb k 18) (eqb k 22) more in
+    let l16 = above k 15 (above k 14 (above k 13 (above k 12 (above k 11 (above k 10 (above k 9 (above k 8 low a) b) c) d) r) f) g) i in
+    let l19 = above k 18 (above k 17 (above k 16 l16 (eqb-false k 16 x)) (eqb-false k 17 y)) (eqb-false k 18 z) in
+    let l23 = above k 22 (above k 21 (above k 20 (above k 19 l19 m) n) p) (eqb-false k 22 v) in
+    omega (arith, high, above k 24 (above k 23 l23 s) t)

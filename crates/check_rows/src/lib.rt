@@ -14,8 +14,7 @@ ghost use Rattle.check_rows.specs.Rows.{RowIs, set_at, let_at, new_at, call_at, 
 use check_entailment::Refusal;
 use check_equality::State;
 use check_state::Known;
-use rules::Kind;
-use tables::{Area, AtomKind};
+use tables::{Area, AtomKind, RowKind};
 
 // `set x f y`
 // Not one with `open_at`: each reads the columns of its own statement, and the call of its rule is all that is left.
@@ -120,7 +119,7 @@ pub fn if_at(w: &Area, i: usize, known: &mut Known, other: &mut Known) -> Result
     ensures { Parts (branches w.now i (state_of known.old.keys known.old.bytes)) result known.new.keys known.new.bytes other.new.keys other.new.bytes }
 {
     let a = tables::first_atom_at(w, i);
-    let apart = tables::atom_kind(w, a) != AtomKind::Eq;
+    let apart = tables::kind_of_atom(w, a) != AtomKind::Eq;
     let l = check_formulas::left(w, a, State::THIS, State::PARAM, State::RESULT);
     let r = check_formulas::right(w, a, State::THIS, State::PARAM, State::RESULT);
     check_statements::if_rule(known, other, apart, l, r)
@@ -158,7 +157,7 @@ pub fn loop_at(w: &Area, i: usize, known: &mut Known) -> Result<(), Refusal>
 {
     let a = tables::first_atom_at(w, i);
     let n = tables::atom_count_at(w, i);
-    let apart = tables::atom_kind(w, a - 1) != AtomKind::Eq;
+    let apart = tables::kind_of_atom(w, a - 1) != AtomKind::Eq;
     check_statements::loop_rule(w, a, n, false, apart, known)
 }
 
@@ -170,42 +169,33 @@ pub fn again_at(w: &Area, i: usize, returned: bool, known: &mut Known) -> Result
 {
     let a = tables::first_atom_at(w, i);
     let n = tables::atom_count_at(w, i);
-    let apart = tables::atom_kind(w, a - 1) == AtomKind::Eq;
+    let apart = tables::kind_of_atom(w, a - 1) == AtomKind::Eq;
     check_statements::loop_rule(w, a, n, returned, apart, known)
 }
 
 // A statement that goes on to the next line, by its kind.
-// A match and no closure: it goes by the kind to functions with contracts of their own, each on the rows of its kind.
+// A match and no closure: it goes by the kind to functions with contracts of their own, each on the rows of its kind. On the kind's number, with ranges
+// for unknown kinds, as document 01 asks.
 #[tactic(auto, unfolding(rules::specs::Grammar::statement_number))]
 pub fn statement(w: &Area, i: usize, known: &mut Known) -> Result<(), Refusal>
     requires { Tables w.now × (i < row_count w.now) × GoesOn (kind_at w.now i) }
     ensures { Stepped w.now i (state_of known.old.keys known.old.bytes) result known.new.keys known.new.bytes }
 {
-    // The other statements do not go on, and no row is of an unknown kind: any result meets the contract.
-    match tables::row_kind(w, i) {
-        Kind::Set => set_at(w, i, known),
-        Kind::Let => let_at(w, i, known),
-        Kind::New => new_at(w, i, known),
-        Kind::Call => call_at(w, i, known),
-        Kind::Assert => assert_at(w, i, known),
-        Kind::Release => release_at(w, i, known),
-        Kind::Add | Kind::Sub => compute_at(w, i, known),
-        Kind::Open => open_at(w, i, known),
-        Kind::Shut => shut_at(w, i, known),
-        // The other statements do not go on, and no row is of another kind: any result meets the contract.
-        Kind::Class
-        | Kind::Field
-        | Kind::Method
-        | Kind::Requires
-        | Kind::Ensures
-        | Kind::Main
-        | Kind::Var
-        | Kind::Return
-        | Kind::If
-        | Kind::Else
-        | Kind::Join
-        | Kind::End
-        | Kind::Loop
-        | Kind::Again => Err(Refusal::Malformed),
+    match tables::kind_at(w, i) {
+        RowKind::SET => set_at(w, i, known),
+        RowKind::LET => let_at(w, i, known),
+        RowKind::NEW => new_at(w, i, known),
+        RowKind::CALL => call_at(w, i, known),
+        RowKind::ASSERT => assert_at(w, i, known),
+        RowKind::RELEASE => release_at(w, i, known),
+        RowKind::ADD | RowKind::SUB => compute_at(w, i, known),
+        RowKind::OPEN => open_at(w, i, known),
+        RowKind::SHUT => shut_at(w, i, known),
+        // The other statements do not go on, and no row is of an unknown kind: any result meets the contract.
+        0..=RowKind::DECLARATION
+        | RowKind::RETURN
+        | RowKind::IF..=RowKind::END
+        | RowKind::LOOP..=RowKind::AGAIN
+        | RowKind::UNKNOWN..=u8::MAX => Err(Refusal::Malformed),
     }
 }

@@ -58,22 +58,23 @@ pub fn drop_variable<'a>(
 
 // The paths of the entries that are out are dropped, but for names still listed.
 pub fn drop_paths<'a>(
-    known: &Known,
+    key: &'a [u64; State::SLOTS],
+    b: &'a [u8; State::BYTES],
     out: &'a [bool; Machine::PERMISSIONS],
     marks: &'a [bool; State::MARKS],
     from: usize,
     m: usize,
     gone: &mut [bool; State::SLOTS],
 )
-    requires { (left_sides ≤ from) × (m ≤ slots) × OutMarked known.now.bytes out.now marks.now × Dropped (key_dropped known.now.bytes out.now) known.now.keys from gone.old }
-    ensures { Dropped (key_dropped known.now.bytes out.now) known.now.keys m gone.new }
+    requires { (left_sides ≤ from) × (m ≤ slots) × OutMarked b.now out.now marks.now × Dropped (key_dropped b.now out.now) key.now from gone.old }
+    ensures { Dropped (key_dropped b.now out.now) key.now m gone.new }
 {
-    let n = known.bytes[State::ENTRIES] as usize;
+    let n = b[State::ENTRIES] as usize;
     drop_sides(
-        &known.keys,
+        key,
         from,
         m,
-        |l| check_entries::names_dropped(&known.bytes, out, marks, n, l),
+        |l| check_entries::names_dropped(b, out, marks, n, l),
         gone,
     );
 }

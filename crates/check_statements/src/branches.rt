@@ -44,7 +44,7 @@ pub fn join_rule(
 {
     crate::show_end(w, a, n, returned, known)?;
     crate::show_end(w, a, n, returned2, other)?;
-    check_forgetting::clear(known);
+    check_forgetting::forget_all(known);
     check_formulas::add(w, a, n, State::THIS, State::PARAM, State::RESULT, known)
 }
 
@@ -62,7 +62,7 @@ pub fn loop_rule(
     ensures { Adds (loop_known w.now a n (rel_of apart) (end_of returned (state_of known.old.keys known.old.bytes))) result known.new.keys known.new.bytes }
 {
     crate::show_end(w, a, n, returned, known)?; // The invariant is shown here.
-    check_forgetting::clear(known);
+    check_forgetting::forget_all(known);
     check_formulas::add(w, a, n, State::THIS, State::PARAM, State::RESULT, known)?;
     let condition = a - 1;
     let l = check_formulas::left(w, condition, State::THIS, State::PARAM, State::RESULT);

@@ -13,11 +13,11 @@ use check_state::Known;
 fn add_opened(known: &mut Known, y: u8, x: u8, f: u8) -> Result<(), Refusal>
     ensures { Adds (add_opened y x f (state_of known.old.keys known.old.bytes)) result known.new.keys known.new.bytes }
 {
-    check_entailment::add_permission(known, State::ACC, x, f)?;
+    check_entailment::add_entry(known, State::ACC, x, f)?;
     let path = check_equality::path_key(x, f);
     let value = check_equality::variable_key(y);
     check_entailment::add_fact(known, false, path, value)?;
-    check_entailment::add_permission(known, State::CHAIN, y, f)
+    check_entailment::add_entry(known, State::CHAIN, y, f)
 }
 
 // `open y x f`, where x ≠ null is shown.
@@ -51,7 +51,7 @@ fn shut_path(known: &mut Known, x: u8, f: u8, p: u64) -> Result<(), Refusal>
     let v = check_equality::variable_key(x);
     check_entailment::take(known, &mut left, State::ACC, v, f)?;
     check_forgetting::remainder(known, &left);
-    check_entailment::add_permission(known, State::CHAIN, x, f)
+    check_entailment::add_entry(known, State::CHAIN, x, f)
 }
 
 // `shut x f`

@@ -19,12 +19,7 @@ fn add_fields(w: &Area, known: &mut Known, x: u8, c: usize, n: usize) -> Result<
     ensures { Adds (add_fields x (fields_from w.now c 0 n) (state_of known.old.keys known.old.bytes)) result known.new.keys known.new.bytes }
 {
     for j in 0..n {
-        check_entailment::add_permission(
-            known,
-            State::ACC,
-            x,
-            tables::field_name_at(w, c, j) as u8,
-        )?;
+        check_entailment::add_entry(known, State::ACC, x, tables::field_name_at(w, c, j) as u8)?;
     }
     Ok(())
 }

@@ -184,7 +184,7 @@ pub fn check_method(w: &Area, m: usize, known: &mut Known) -> Result<(), Refused
     requires { Tables w.now × (m < method_count w.now) }
     ensures { verdict_of result ≡ check_method (program_in w.now) (method_at w.now m) }
 {
-    check_forgetting::clear(known);
+    check_forgetting::forget_all(known);
     let a = tables::requires_first(w, m);
     let n = tables::requires_count(w, m);
     let k = check_formulas::add(w, a, n, State::THIS, State::PARAM, State::RESULT, known);
@@ -199,7 +199,7 @@ pub fn check_main(w: &Area, known: &mut Known) -> Result<(), RefusedLine>
     requires { Tables w.now }
     ensures { verdict_of result ≡ check_blocks (program_in w.now) [] }
 {
-    check_forgetting::clear(known);
+    check_forgetting::forget_all(known);
     check_block(w, tables::main_first(w), 0, 0, known)
 }
 

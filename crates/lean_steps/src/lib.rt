@@ -2,7 +2,6 @@
 #![tactic(auto)]
 
 ghost use Rattle.std.specs.Prelude.{◌≡◌, ◌≤◌, ◌<◌, T};
-ghost use Rattle.rules.specs.Numbered.{number};
 ghost use Rattle.rules.specs.Limits.{most_statements};
 ghost use Rattle.rules.specs.Grammar.{Set, Let, Open, IsStatementNumber, loop_kind, is_computing};
 ghost use Rattle.tables.specs.Decode.{kind_at, first_atom_at};
@@ -54,7 +53,7 @@ pub fn choose_step(work: &Area, c: Counters) -> Turn
     let a = condition_at(work, row);
     let l = lean_heap::value(work, b, tables::left_at(work, a));
     let r = lean_heap::value(work, b, tables::right_at(work, a));
-    if run_footprint::compare(tables::atom_kind(work, a), l, r) {
+    if run_footprint::compare(tables::kind_of_atom(work, a), l, r) {
         return Ok(Some(lean_heap::next(c, c.row + 1)));
     }
     Ok(Some(lean_heap::next(c, tables::target_at(work, row) as u32)))
@@ -90,8 +89,8 @@ pub fn open_step(work: &mut Area, c: Counters) -> Turn
 }
 
 // `add` and `sub`, by the kind of the row. The caller names the kind, so that the compiler makes one step for each.
-pub fn compute_step(work: &mut Area, c: Counters, kind: Kind) -> Turn
-    requires { CanStep work.old c × ((number kind ≡ kind_at work.old c.row) × T (is_computing (number kind))) }
+pub fn compute_step(work: &mut Area, c: Counters, kind: u8) -> Turn
+    requires { CanStep work.old c × ((kind ≡ kind_at work.old c.row) × T (is_computing kind)) }
     ensures { Does work.old c work.new result }
 {
     let row = c.row as usize;

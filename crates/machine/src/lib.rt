@@ -12,10 +12,10 @@ ghost use Rattle.machine.specs.Runs.{RanAs, fault_number, number};
 ghost use Rattle.run_heap.specs.Views.{fill};
 ghost use Rattle.rules.specs.Machine.{step as step_of};
 
-use rules::{Kind, Machine, Number};
+use rules::{Machine, Number};
 use run_heap::{Fault, Stores};
 use run_steps::{Ending, Turn};
-use tables::{Area, Layout};
+use tables::{Area, Layout, RowKind};
 
 // What a run ends with; main's values are in its frame.
 pub type Ran = run_steps::Ran<Fault>;
@@ -52,28 +52,22 @@ pub fn step(work: &mut Area, c: Machine, most_objects: u32, most_fields: u32) ->
     ensures { Does work.old c work.new result (step_of (record { objects = most_objects; fields = most_fields }) (program_in work.old)) }
 {
     let row = c.row as usize;
-    match tables::row_kind(work, row) {
-        Kind::Set => run_steps::set_step(work, c),
-        Kind::Let => run_steps::let_step(work, c),
-        Kind::New => run_calls::new_step(work, c, most_objects, most_fields),
-        Kind::Call => run_calls::call_step(work, c),
-        Kind::Return | Kind::End => run_returns::back_step(work, c),
-        Kind::Assert | Kind::Join => run_steps::assert_step(work, c),
-        Kind::Release => run_steps::release_step(work, c),
-        Kind::If => run_steps::if_step(work, c),
-        Kind::Loop => run_steps::loop_step(work, c),
-        Kind::Else | Kind::Again => run_steps::jump_step(work, c),
-        Kind::Open => run_steps::open_step(work, c),
-        Kind::Shut => run_steps::shut_step(work, c),
-        Kind::Add | Kind::Sub => run_steps::compute_step(work, c),
+    match tables::kind_at(work, row) {
+        RowKind::SET => run_steps::set_step(work, c),
+        RowKind::LET => run_steps::let_step(work, c),
+        RowKind::NEW => run_calls::new_step(work, c, most_objects, most_fields),
+        RowKind::CALL => run_calls::call_step(work, c),
+        RowKind::RETURN | RowKind::END => run_returns::back_step(work, c),
+        RowKind::ASSERT | RowKind::JOIN => run_steps::assert_step(work, c),
+        RowKind::RELEASE => run_steps::release_step(work, c),
+        RowKind::IF => run_steps::if_step(work, c),
+        RowKind::LOOP => run_steps::loop_step(work, c),
+        RowKind::ELSE | RowKind::AGAIN => run_steps::jump_step(work, c),
+        RowKind::OPEN => run_steps::open_step(work, c),
+        RowKind::SHUT => run_steps::shut_step(work, c),
+        RowKind::ADD | RowKind::SUB => run_steps::compute_step(work, c),
         // No row is of another kind, so that any answer meets the contract.
-        Kind::Class
-        | Kind::Field
-        | Kind::Method
-        | Kind::Requires
-        | Kind::Ensures
-        | Kind::Main
-        | Kind::Var => Ok(None),
+        0..=RowKind::DECLARATION | RowKind::UNKNOWN..=u8::MAX => Ok(None),
     }
 }
 

@@ -79,6 +79,12 @@ of_number P n a b c d e (suc (suc (suc (suc zero)))) = d
 of_number P n a b c d e (suc (suc (suc (suc (suc zero))))) = e
 of_number P n a b c d e (suc (suc (suc (suc (suc (suc k)))))) = n (suc (suc (suc (suc (suc (suc k)))))) (λ l m. omega arith)
 
+pub no_kind : (k : ℕ) → (k ≡ 1 → ⊥) → (k ≡ 2 → ⊥) → (k ≡ 3 → ⊥) → (k ≡ 4 → ⊥) → (k ≡ 5 → ⊥) → atom_word k ≡ []
+no_kind =
+    of_number (λ k w. (k ≡ 1 → ⊥) → (k ≡ 2 → ⊥) → (k ≡ 3 → ⊥) → (k ≡ 4 → ⊥) → (k ≡ 5 → ⊥) → w ≡ []) (λ k n a b c d e. refl)
+    (λ a b c d e. absurd (a refl)) (λ a b c d e. absurd (b refl)) (λ a b c d e. absurd (c refl)) (λ a b c d e. absurd (d refl))
+    (λ a b c d e. absurd (e refl))
+
 pub word-solid : (k : ℕ) → all (between 1 255) (atom_word k) ≡ true
 unfolding Base.opened
 word-solid = of_number (λ k w. all (between 1 255) w ≡ true) (λ k n. refl) refl refl refl refl refl

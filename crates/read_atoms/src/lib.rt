@@ -68,7 +68,7 @@ fn columns(word: u64, bytes: usize, operands: u32, condition: bool) -> Row
 
 // The row of the atom of this kind.
 // A match and no array: one function makes each row of the table from its columns.
-pub fn row_of(kind: AtomKind) -> Row
+pub fn row_of_kind(kind: AtomKind) -> Row
     ensures { result ≡ atom_row (kind_number kind) }
 {
     match kind {
@@ -77,6 +77,31 @@ pub fn row_of(kind: AtomKind) -> Row
         AtomKind::Chain => columns(Packed::CHAIN, Bytes::CHAIN, PATH, false),
         AtomKind::Eq => columns(Packed::EQ, Bytes::EQ, SIDES, true),
         AtomKind::Ne => columns(Packed::NE, Bytes::NE, SIDES, true),
+    }
+}
+
+// Their numbers.
+const READ: usize = AtomKind::Read as usize;
+
+const ACC: usize = AtomKind::Acc as usize;
+
+const CHAIN: usize = AtomKind::Chain as usize;
+
+const EQ: usize = AtomKind::Eq as usize;
+
+const NE: usize = AtomKind::Ne as usize;
+
+// The same by its number. A number that is no kind has no operands.
+pub fn row_of(kind: usize) -> Row
+    ensures { result ≡ atom_row kind }
+{
+    match kind {
+        READ => row_of_kind(AtomKind::Read),
+        ACC => row_of_kind(AtomKind::Acc),
+        CHAIN => row_of_kind(AtomKind::Chain),
+        EQ => row_of_kind(AtomKind::Eq),
+        NE => row_of_kind(AtomKind::Ne),
+        _ => columns(0, 0, 0, false),
     }
 }
 

@@ -95,7 +95,7 @@ fn atom_head(t: &[u8], r: usize) -> Option<Head>
 {
     let a = r + 1;
     let kind = read_atoms::begun_by(read_bytes::byte_at(t, a))?;
-    let row = read_atoms::row_of(kind);
+    let row = read_atoms::row_of_kind(kind);
     if !is_spelled(t, a, row.word, row.bytes) {
         return None;
     }
@@ -138,7 +138,7 @@ fn condition_end(t: &[u8], r: usize, most: usize) -> Option<usize>
         return None;
     }
     let kind = read_atoms::begun_by(read_bytes::byte_at(t, r + 1))?;
-    if !read_atoms::row_of(kind).condition {
+    if !read_atoms::row_of_kind(kind).condition {
         return None;
     }
     formula_end(t, r, most)

@@ -100,7 +100,7 @@ fn put_next_atom(text: &[u8], work: &mut Area, r: usize, n: usize, c: Names) -> 
     ensures { NextTried text.now work.old c r n work.new result }
 {
     let kind = read_atoms::begun_by(read_bytes::byte_at(text, r + 1)).unwrap();
-    let row = read_atoms::row_of(kind);
+    let row = read_atoms::row_of_kind(kind);
     let x = r + 1 + row.bytes;
     let y = read_fields::next_field(text, x);
     let z = read_fields::next_field(text, y);

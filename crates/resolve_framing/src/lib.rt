@@ -20,7 +20,8 @@ fn is_access(work: &Area, a: usize) -> bool
     requires { a < most_atom_rows }
     ensures { result ≡ is_access work.now a }
 {
-    matches!(tables::atom_kind(work, a), AtomKind::Read | AtomKind::Acc)
+    let k = tables::kind_of_atom(work, a);
+    matches!(k, AtomKind::Read | AtomKind::Acc)
 }
 
 fn is_of(work: &Area, a: usize, x: usize, f: usize) -> bool
@@ -84,7 +85,7 @@ fn framed_atom(work: &Area, first: usize, n: usize, a: usize) -> bool
     requires { (first + n ≤ most_atom_rows) × (a < most_atom_rows) }
     ensures { result ≡ framed (accesses work.now first n) (atom_at work.now a ∷ []) }
 {
-    match tables::atom_kind(work, a) {
+    match tables::kind_of_atom(work, a) {
         AtomKind::Read | AtomKind::Acc | AtomKind::Chain => true,
         AtomKind::Eq | AtomKind::Ne => framed_sides(work, first, n, a),
     }

@@ -51,7 +51,7 @@ pub fn condition(work: &Area, v: View, a: usize) -> Result<bool, Fault>
 {
     let l = run_heap::left(work, v, a)?;
     let r = run_heap::right(work, v, a)?;
-    Ok(compare(tables::atom_kind(work, a), l, r))
+    Ok(compare(tables::kind_of_atom(work, a), l, r))
 }
 
 // How many halves of the cell k, which is of a field f, the share s takes.
@@ -156,7 +156,7 @@ fn take_atom(
     requires { (Readable work.now v × (a < atom_count work.now)) × RoomAfter shares.old seen.old n }
     ensures { TookOne result shares.new seen.new n (take_in work.now v (atom_at work.now a ∷ []) (take n shares.old)) }
 {
-    match tables::atom_kind(work, a) {
+    match tables::kind_of_atom(work, a) {
         AtomKind::Read | AtomKind::Acc => take_share(work, v, a, shares, seen, n),
         AtomKind::Chain => take_chain(work, v, a, shares, seen, n),
         AtomKind::Eq | AtomKind::Ne => {

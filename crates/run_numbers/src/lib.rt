@@ -2,7 +2,6 @@
 #![tactic(auto)]
 
 ghost use Rattle.std.specs.Prelude.{◌≡◌, ◌<◌};
-ghost use Rattle.rules.specs.Numbered.{number};
 ghost use Rattle.rules.specs.Syntax.{sum, difference, words, offset};
 ghost use Rattle.rules.specs.Machine.{in_range, computed};
 ghost use Rattle.tables.specs.Decode.{operation_of};
@@ -54,10 +53,10 @@ fn subtract(v: u32, w: u32) -> Option<u32>
 
 // The result's 32 bits, or `None`: "A result beyond 32 bits signed stops the run".
 #[tactic(auto, unfolding(tables::specs::Decode::operation_of))]
-pub fn compute(kind: Kind, v: u32, w: u32) -> Option<u32>
-    ensures { computed_is result ≡ computed (operation_of (number kind)) v w }
+pub fn compute(kind: u8, v: u32, w: u32) -> Option<u32>
+    ensures { computed_is result ≡ computed (operation_of kind) v w }
 {
-    if kind == Kind::Add {
+    if kind == Kind::Add as u8 {
         return add(v, w);
     }
     subtract(v, w)

@@ -140,7 +140,7 @@ pub fn compute_step(work: &mut Area, c: Machine) -> Turn
     let b = v.base;
     let y = run_heap::variable(work, b, tables::y_at(work, row));
     let z = run_heap::variable(work, b, tables::z_at(work, row));
-    let n = run_numbers::compute(tables::row_kind(work, row), y, z).ok_or(Fault::Overflow)?;
+    let n = run_numbers::compute(tables::kind_at(work, row), y, z).ok_or(Fault::Overflow)?;
     let x = tables::x_at(work, row);
     tables::put_word(work, b + x * Stores::WORD_BYTES, n);
     Ok(Some(next(c, c.row + 1)))

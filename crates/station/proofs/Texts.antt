@@ -54,15 +54,15 @@ module _ (t w : List ℕ) where
 pub not-zero : (r : Refused) {v : ℕ × ℕ} → numbers_found (Err r) ≡ v → v.0 ≡ 0 → ⊥
 not-zero r e z = refusal-not-zero (refusal_of r.why) (ap (λ (p : ℕ × ℕ). p.0) e ∙ z)
 
-refused-read : (t : List ℕ) (r : Refused) → read_text t ≡ refused (refusal_of r.why) r.line → numbers_found (Err r) ≡ verdict_numbers (read_text t)
+pub refused-read : (t : List ℕ) (r : Refused) → read_text t ≡ refused (refusal_of r.why) r.line → numbers_found (Err r) ≡ verdict_numbers (read_text t)
 unfolding verdict_numbers
 refused-read t r e = sym (rw e)
 
-taken-read : {t w : List ℕ} {u : Std.Option ℕ} → Tabled t w u → (0, 0) ≡ verdict_numbers (read_text t)
+pub taken-read : {t w : List ℕ} {u : Std.Option ℕ} → Tabled t w u → (0, 0) ≡ verdict_numbers (read_text t)
 unfolding verdict_numbers
 taken-read x = sym (rw x.read)
 
-refused-checked : (t : List ℕ) (r : Refused) → read_text t ≡ refused (refusal_of r.why) r.line → numbers_found (Err r) ≡ check_text t
+pub refused-checked : (t : List ℕ) (r : Refused) → read_text t ≡ refused (refusal_of r.why) r.line → numbers_found (Err r) ≡ check_text t
 unfolding check_text then verdict_numbers
 refused-checked t r e = sym (rw e)
 

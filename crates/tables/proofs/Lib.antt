@@ -5,3 +5,4 @@ pub mod Decoding
 pub mod Rows
 pub mod Statements
 pub mod AtomKinds
+pub mod RowKinds

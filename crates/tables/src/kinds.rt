@@ -1,6 +1,54 @@
-// What a byte of an atom says: its kind, and what each of its sides is.
+// What a byte of a row says: its kind; and what a byte of an atom says: its kind, and what each of its sides is.
 
 ghost use Rattle.std.specs.Prelude.{◌≡◌};
+
+use rules::Kind;
+
+// The kinds of the rows of statements, by their numbers: `match` on the byte of a row, with ranges for the bytes that are no statement's.
+#[derive(Clone, Copy)]
+pub struct RowKind {}
+
+impl RowKind {
+    // The kinds up to this one are those of declarations.
+    pub const DECLARATION: u8 = Kind::Var as u8;
+
+    pub const SET: u8 = Kind::Set as u8;
+
+    pub const LET: u8 = Kind::Let as u8;
+
+    pub const NEW: u8 = Kind::New as u8;
+
+    pub const CALL: u8 = Kind::Call as u8;
+
+    pub const RETURN: u8 = Kind::Return as u8;
+
+    pub const ASSERT: u8 = Kind::Assert as u8;
+
+    pub const RELEASE: u8 = Kind::Release as u8;
+
+    pub const IF: u8 = Kind::If as u8;
+
+    pub const ELSE: u8 = Kind::Else as u8;
+
+    pub const JOIN: u8 = Kind::Join as u8;
+
+    pub const END: u8 = Kind::End as u8;
+
+    pub const ADD: u8 = Kind::Add as u8;
+
+    pub const SUB: u8 = Kind::Sub as u8;
+
+    pub const LOOP: u8 = Kind::Loop as u8;
+
+    pub const AGAIN: u8 = Kind::Again as u8;
+
+    pub const OPEN: u8 = Kind::Open as u8;
+
+    pub const SHUT: u8 = Kind::Shut as u8;
+
+    // No kind from this one on.
+    pub const UNKNOWN: u8 = Kind::LAST + 1;
+}
 
 // The kinds of atoms, by their numbers: that of a permission is the number of its halves.
 #[derive(Clone, Copy, PartialEq, Eq)]

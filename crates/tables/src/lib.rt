@@ -22,7 +22,7 @@ pub use declarations::{
     ensures_count, ensures_first, field_count_at, field_kind_at, field_name_at, first_row_at,
     place_at, requires_count, requires_first,
 };
-pub use kinds::{AtomKind, SideTag};
+pub use kinds::{AtomKind, RowKind, SideTag};
 pub use offsets::{AtomAt, Bytes, ClassAt, HeaderAt, MethodAt, RowAt};
 use rules::Machine;
 pub use stores::{put_byte, put_half, put_word};
@@ -216,8 +216,16 @@ pub fn main_first(w: &Area) -> usize
 
 // ATOMS
 
+// The kind of the atom a, by its number.
+pub fn atom_kind(w: &Area, a: usize) -> usize
+    requires { a < most_atom_rows }
+    ensures { (result ≡ atom_kind_at w.now a) × (result < byte_values) }
+{
+    byte_at(w, Layout::ATOMS + a * Layout::ATOM_BYTES)
+}
+
 // The kind of the atom a.
-pub fn atom_kind(w: &Area, a: usize) -> AtomKind
+pub fn kind_of_atom(w: &Area, a: usize) -> AtomKind
     requires { a < most_atom_rows }
     ensures { result ≡ kind_of (atom_kind_at w.now a) }
 {
@@ -229,7 +237,7 @@ pub fn atom_halves(w: &Area, a: usize) -> usize
     requires { a < most_atom_rows }
     ensures { (result ≡ atom_kind_at w.now a) × (result < byte_values) }
 {
-    byte_at(w, Layout::ATOMS + a * Layout::ATOM_BYTES)
+    atom_kind(w, a)
 }
 
 // The variable of the atom a, an `acc`, a `read` or a `chain`.

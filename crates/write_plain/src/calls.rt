@@ -107,5 +107,5 @@ pub fn call_row(
     let class = read_lookups::type_of(work, y);
     let m = read_lookups::method_number(text, work, c, class, read_names::name_in(text, d));
     let v = judge_call(text, work, c, x, y, z, class, d, m);
-    crate::row_if(v, crate::row(Kind::Call, x, y, z, m, line))
+    crate::row_if(v, crate::row(Kind::Call as u8, x, y, z, m, line))
 }

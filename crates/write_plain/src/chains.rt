@@ -61,7 +61,10 @@ pub fn open_row(
     let y = crate::variable_at(text, work, c, a);
     let x = chain_at(text, work, c, b, d);
     let v = judge_open(text, work, x, y);
-    crate::row_if(v, crate::row(Kind::Open, y, x.variable, 0, x.number, line))
+    crate::row_if(
+        v,
+        crate::row(Kind::Open as u8, y, x.variable, 0, x.number, line),
+    )
 }
 
 // `shut x f`
@@ -80,6 +83,6 @@ pub fn shut_row(
     let x = chain_at(text, work, c, a, b);
     crate::row_if(
         x.verdict,
-        crate::row(Kind::Shut, x.variable, 0, 0, x.number, line),
+        crate::row(Kind::Shut as u8, x.variable, 0, 0, x.number, line),
     )
 }

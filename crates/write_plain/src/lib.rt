@@ -21,7 +21,7 @@ use read_names::Span;
 use read_scopes::Names;
 use read_types::{Fault, Member};
 use rules::Kind;
-use tables::{Area, Operands};
+use tables::{Area, Operands, RowKind};
 
 // The number of the variable named at a place of the text.
 fn variable_at(text: &[u8], work: &Area, c: Names, s: Span) -> usize
@@ -51,11 +51,18 @@ fn row_if(v: Result<(), Fault>, o: Operands) -> Result<Operands, Fault>
     Ok(o)
 }
 
-fn row(kind: Kind, x: usize, y: usize, z: usize, member: usize, line: usize) -> Operands
-    ensures { result ≡ bare (number kind) x y z member line }
+// The number of a kind.
+fn number_of(kind: Kind) -> u8
+    ensures { result ≡ number kind }
+{
+    kind as u8
+}
+
+fn row(kind: u8, x: usize, y: usize, z: usize, member: usize, line: usize) -> Operands
+    ensures { result ≡ bare kind x y z member line }
 {
     Operands {
-        kind: kind as u8,
+        kind,
         x,
         y,
         z,
@@ -95,7 +102,7 @@ fn set_row(text: &[u8], work: &Area, c: Names, r: usize, line: usize) -> Result<
     );
     let y = variable_at(text, work, c, d);
     let v = judge_set(text, work, x, y);
-    row_if(v, row(Kind::Set, x.variable, y, 0, x.number, line))
+    row_if(v, row(Kind::Set as u8, x.variable, y, 0, x.number, line))
 }
 
 // May x hold a new object of the class that is named at s and has the number k?
@@ -123,7 +130,7 @@ fn new_row(text: &[u8], work: &Area, c: Names, r: usize, line: usize) -> Result<
     let x = variable_at(text, work, c, a);
     let k = read_lookups::class_number(text, work, c, read_names::name_in(text, b));
     let v = judge_new(text, work, c, x, k, b);
-    row_if(v, row(Kind::New, x, 0, 0, k, line))
+    row_if(v, row(Kind::New as u8, x, 0, 0, k, line))
 }
 
 // `return x`
@@ -139,7 +146,7 @@ fn return_row(text: &[u8], work: &Area, c: Names, r: usize, line: usize) -> Resu
     let result = read_lookups::variable_type(text, work, c, b"result");
     let same = read_lookups::same_name(text, read_lookups::type_of(work, x), result);
     let v = read_types::test(same, Fault::WrongType);
-    row_if(v, row(Kind::Return, x, 0, 0, 0, line))
+    row_if(v, row(Kind::Return as u8, x, 0, 0, 0, line))
 }
 
 // Is x an int?
@@ -186,32 +193,32 @@ fn compute_row(
     let y = variable_at(text, work, c, b);
     let z = variable_at(text, work, c, d);
     let v = judge_compute(text, work, x, y, z);
-    row_if(v, row(kind, x, y, z, 0, line))
+    row_if(v, row(number_of(kind), x, y, z, 0, line))
 }
 
-// The row of a line of this kind; `else`, `end` and `again` have no operands.
-// A match and no closure: each kind has its own operands, and a contract that names its row and its tests.
+// The row of a line of this kind, by its number; `else`, `end` and `again` have no operands.
+// A match and no closure: each kind has its own operands, and a contract that names its row and its tests. A byte that is no kind has an answer too.
 #[tactic(auto, unfolding(crate::specs::Plain::plain_row, crate::specs::Plain::plain_judged, rules::specs::Grammar::is_computing, rules::specs::Grammar::statement_number))]
 pub fn plain_row(
     text: &[u8],
     work: &Area,
     c: Names,
-    kind: Kind,
+    kind: u8,
     r: usize,
     line: usize,
 ) -> Result<Operands, Fault>
     requires { AreaFits work.now c × (r ≤ length text.now) }
-    ensures { TriedAfter text.now work.now c r (λ Γ vs ws. plain_judged Γ vs ws (number kind)) (λ Γ vs ws l. plain_row Γ vs ws l (number kind)) line result }
+    ensures { TriedAfter text.now work.now c r (λ Γ vs ws. plain_judged Γ vs ws kind) (λ Γ vs ws l. plain_row Γ vs ws l kind) line result }
 {
     match kind {
-        Kind::Set => set_row(text, work, c, r, line),
-        Kind::New => new_row(text, work, c, r, line),
-        Kind::Call => calls::call_row(text, work, c, r, line),
-        Kind::Return => return_row(text, work, c, r, line),
-        Kind::Add => compute_row(text, work, c, Kind::Add, r, line),
-        Kind::Sub => compute_row(text, work, c, Kind::Sub, r, line),
-        Kind::Open => chains::open_row(text, work, c, r, line),
-        Kind::Shut => chains::shut_row(text, work, c, r, line),
+        RowKind::SET => set_row(text, work, c, r, line),
+        RowKind::NEW => new_row(text, work, c, r, line),
+        RowKind::CALL => calls::call_row(text, work, c, r, line),
+        RowKind::RETURN => return_row(text, work, c, r, line),
+        RowKind::ADD => compute_row(text, work, c, Kind::Add, r, line),
+        RowKind::SUB => compute_row(text, work, c, Kind::Sub, r, line),
+        RowKind::OPEN => chains::open_row(text, work, c, r, line),
+        RowKind::SHUT => chains::shut_row(text, work, c, r, line),
         _ => row_if(Ok(()), row(kind, 0, 0, 0, 0, line)),
     }
 }
@@ -229,7 +236,7 @@ pub fn put_plain(
     requires { AreaFits work.old c × PlainFollows text.now (number kind) r × (i < most_statements) × (line < half_values) }
     ensures { PlainTried text.now work.old c (number kind) r i line work.new result }
 {
-    let o = plain_row(text, work, c, kind, r, line)?;
+    let o = plain_row(text, work, c, number_of(kind), r, line)?;
     write_rows::put_row(work, i, o);
     Ok(())
 }

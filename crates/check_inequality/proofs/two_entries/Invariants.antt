@@ -9,8 +9,8 @@ use Rattle.check_inequality.proofs.two_entries.Given as goal
 
 abbrev pub invariant-loop-j : goal.invariant-loop-j
 invariant-loop-j l =
-    Told l.known.keys l.known.bytes (slots_in l.known.bytes) (λ same. any (λ p. differ same p (permission_at l.known.bytes l.i) (term_of l.t) (term_of l.u)) (permissions_in l.known.bytes l.j) ≡ false)
+    (l.found ≡ false) × Told l.known.keys l.known.bytes (slots_in l.known.bytes) (λ same. any (λ p. differ same p (permission_at l.known.bytes l.i) (term_of l.t) (term_of l.u)) (permissions_in l.known.bytes l.j) ≡ false)
 
-abbrev pub invariant-loop-i : goal.invariant-loop-i
-invariant-loop-i l =
-    Told l.known.keys l.known.bytes (slots_in l.known.bytes) (λ same. two_entries same (permissions_in l.known.bytes l.i) (term_of l.t) (term_of l.u) ≡ false)
+abbrev pub invariant-entries : goal.invariant-entries
+invariant-entries l =
+    (l.found ≡ false) × Told l.known.keys l.known.bytes (slots_in l.known.bytes) (λ same. two_entries same (permissions_in l.known.bytes l.i) (term_of l.t) (term_of l.u) ≡ false)

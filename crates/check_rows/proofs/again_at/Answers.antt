@@ -18,4 +18,4 @@ loop_rule-requires c =
 
 pub returns : goal.returns
 returns c =
-    subst (λ (t : Try Refusal Rules.State). Adds t c.loop_rule.result c.loop_rule.new.known.keys c.loop_rule.new.known.bytes) (rw (ap rel_of c.eq-apart.ensures ∙ opposite-relation _ _ c.atom_kind.ensures, c.first_atom_at-a.ensures.0, c.atom_count_at-n.ensures.0)) c.loop_rule.ensures
+    subst (λ (t : Try Refusal Rules.State). Adds t c.loop_rule.result c.loop_rule.new.known.keys c.loop_rule.new.known.bytes) (rw (ap rel_of c.eq-apart.ensures ∙ opposite-relation _ _ c.kind_of_atom.ensures, c.first_atom_at-a.ensures.0, c.atom_count_at-n.ensures.0)) c.loop_rule.ensures

@@ -22,14 +22,14 @@ pub value-r-requires : goal.value-r-requires
 value-r-requires c =
     (has_base c.requires.0 c.base_of-b.ensures.0, right-readable c.requires.0 c.requires.1 c.condition_at-a.ensures _ _ c.base_of-b.ensures.0 c.right_at.ensures)
 
-pub atom_kind-requires : goal.atom_kind-requires
-atom_kind-requires c =
+pub kind_of_atom-requires : goal.kind_of_atom-requires
+kind_of_atom-requires c =
     condition-small c.requires.0 c.requires.1 c.condition_at-a.ensures
 
 pub returns-then-compare : goal.returns-then-compare
 returns-then-compare c =
-    condition-holds c.requires.0 c.requires.1 c.condition_at-a.ensures _ _ _ _ _ _ _ c.base_of-b.ensures.0 c.left_at.ensures c.right_at.ensures c.value-l.ensures c.value-r.ensures c.atom_kind.ensures c.compare.ensures c.if-compare.true c.next.ensures
+    condition-holds c.requires.0 c.requires.1 c.condition_at-a.ensures _ _ _ _ _ _ _ c.base_of-b.ensures.0 c.left_at.ensures c.right_at.ensures c.value-l.ensures c.value-r.ensures c.kind_of_atom.ensures c.compare.ensures c.if-compare.true c.next.ensures
 
 pub returns : goal.returns
 returns c =
-    condition-fails c.requires.0 c.requires.1 c.condition_at-a.ensures _ _ _ _ _ _ _ c.base_of-b.ensures.0 c.left_at.ensures c.right_at.ensures c.value-l.ensures c.value-r.ensures c.atom_kind.ensures c.compare.ensures c.if-compare.false _ c.target_at.ensures.0 c.next-2.ensures
+    condition-fails c.requires.0 c.requires.1 c.condition_at-a.ensures _ _ _ _ _ _ _ c.base_of-b.ensures.0 c.left_at.ensures c.right_at.ensures c.value-l.ensures c.value-r.ensures c.kind_of_atom.ensures c.compare.ensures c.if-compare.false _ c.target_at.ensures.0 c.next-2.ensures

@@ -1,60 +1,69 @@
-use mathlib.Core.Path.{sym}
+use mathlib.Core.Path.{sym, ◌∙◌}
+use mathlib.Core.Logic.{inl, inr, ⊎_elim}
+use native.Mathlib.Omega.{arith}
 use Rattle.rules.specs.Grammar.{statement_number}
-use Rattle.rules.proofs.KindNumbers.{either, computes}
+use Rattle.tables.proofs.RowKinds.{computes}
+use Rattle.run_steps.proofs.Doing.{fits}
 use Rattle.machine.proofs.Stepping as Stepping
 use Rattle.machine.proofs.step.Goals as goal
 
 pub compute_step-requires : goal.compute_step-requires
-compute_step-requires c = (c.requires.0, computes c.row_kind.ensures c.in-Add.is)
+compute_step-requires c = (c.requires.0, computes _ (grind (arith, c.kind_at.ensures)) (grind (arith, c.kind_at.ensures)))
 
-pub returns-in-Set : goal.returns-in-Set
+pub returns-in-8 : goal.returns-in-8
 unfolding statement_number
-returns-in-Set c = Stepping.does-as (Stepping.set_is _ (sym c.in-Set.ensures)) c.set_step.ensures
+returns-in-8 c = Stepping.does-as (Stepping.set_is _ (sym c.kind_at.ensures ∙ c.in-8.is)) c.set_step.ensures
 
-pub returns-in-Let : goal.returns-in-Let
+pub returns-in-9 : goal.returns-in-9
 unfolding statement_number
-returns-in-Let c = Stepping.does-as (Stepping.let-is _ (sym c.in-Let.ensures)) c.let_step.ensures
+returns-in-9 c = Stepping.does-as (Stepping.let-is _ (sym c.kind_at.ensures ∙ c.in-9.is)) c.let_step.ensures
 
-pub returns-in-New : goal.returns-in-New
+pub returns-in-10 : goal.returns-in-10
 unfolding statement_number
-returns-in-New c = Stepping.does-as (Stepping.new_is _ c.requires.0 (sym c.in-New.ensures)) c.new_step.ensures
+returns-in-10 c = Stepping.does-as (Stepping.new_is _ c.requires.0 (sym c.kind_at.ensures ∙ c.in-10.is)) c.new_step.ensures
 
-pub returns-in-Call : goal.returns-in-Call
+pub returns-in-11 : goal.returns-in-11
 unfolding statement_number
-returns-in-Call c = Stepping.does-as (Stepping.call-is _ c.requires.0 (sym c.in-Call.ensures)) c.call_step.ensures
+returns-in-11 c = Stepping.does-as (Stepping.call-is _ c.requires.0 (sym c.kind_at.ensures ∙ c.in-11.is)) c.call_step.ensures
 
-pub returns-in-Return : goal.returns-in-Return
+pub returns-in-12 : goal.returns-in-12
 unfolding statement_number
-returns-in-Return c = Stepping.does-as (Stepping.back_is _ (either c.row_kind.ensures c.in-Return.is)) c.back_step.ensures
+returns-in-12 c =
+    Stepping.does-as (Stepping.back_is _ (⊎_elim (λ e. inl (sym c.kind_at.ensures ∙ e)) (λ e. inr (sym c.kind_at.ensures ∙ e)) c.in-12.is)) c.back_step.ensures
 
-pub returns-in-Assert : goal.returns-in-Assert
+pub returns-in-13 : goal.returns-in-13
 unfolding statement_number
-returns-in-Assert c = Stepping.does-as (Stepping.assert-is _ (either c.row_kind.ensures c.in-Assert.is)) c.assert_step.ensures
+returns-in-13 c =
+    Stepping.does-as (Stepping.assert-is _ (⊎_elim (λ e. inl (sym c.kind_at.ensures ∙ e)) (λ e. inr (sym c.kind_at.ensures ∙ e)) c.in-13.is)) c.assert_step.ensures
 
-pub returns-in-Release : goal.returns-in-Release
+pub returns-in-14 : goal.returns-in-14
 unfolding statement_number
-returns-in-Release c = Stepping.does-as (Stepping.release-is _ (sym c.in-Release.ensures)) c.release_step.ensures
+returns-in-14 c = Stepping.does-as (Stepping.release-is _ (sym c.kind_at.ensures ∙ c.in-14.is)) c.release_step.ensures
 
-pub returns-in-If : goal.returns-in-If
+pub returns-in-15 : goal.returns-in-15
 unfolding statement_number
-returns-in-If c = Stepping.does-as (Stepping.if-is _ (sym c.in-If.ensures)) c.if_step.ensures
+returns-in-15 c = Stepping.does-as (Stepping.if-is _ (sym c.kind_at.ensures ∙ c.in-15.is)) c.if_step.ensures
 
-pub returns-in-Loop : goal.returns-in-Loop
+pub returns-in-21 : goal.returns-in-21
 unfolding statement_number
-returns-in-Loop c = Stepping.does-as (Stepping.loop-is _ (sym c.in-Loop.ensures)) c.loop_step.ensures
+returns-in-21 c = Stepping.does-as (Stepping.loop-is _ (sym c.kind_at.ensures ∙ c.in-21.is)) c.loop_step.ensures
 
-pub returns-in-Else : goal.returns-in-Else
+pub returns-in-16 : goal.returns-in-16
 unfolding statement_number
-returns-in-Else c = Stepping.does-as (Stepping.jump-is _ (either c.row_kind.ensures c.in-Else.is)) c.jump_step.ensures
+returns-in-16 c =
+    Stepping.does-as (Stepping.jump-is _ (⊎_elim (λ e. inl (sym c.kind_at.ensures ∙ e)) (λ e. inr (sym c.kind_at.ensures ∙ e)) c.in-16.is)) c.jump_step.ensures
 
-pub returns-in-Open : goal.returns-in-Open
+pub returns-in-23 : goal.returns-in-23
 unfolding statement_number
-returns-in-Open c = Stepping.does-as (Stepping.open_is _ (sym c.in-Open.ensures)) c.open_step.ensures
+returns-in-23 c = Stepping.does-as (Stepping.open_is _ (sym c.kind_at.ensures ∙ c.in-23.is)) c.open_step.ensures
 
-pub returns-in-Shut : goal.returns-in-Shut
+pub returns-in-24 : goal.returns-in-24
 unfolding statement_number
-returns-in-Shut c = Stepping.does-as (Stepping.shut-is _ (sym c.in-Shut.ensures)) c.shut_step.ensures
+returns-in-24 c = Stepping.does-as (Stepping.shut-is _ (sym c.kind_at.ensures ∙ c.in-24.is)) c.shut_step.ensures
 
-pub returns-in-Add : goal.returns-in-Add
-returns-in-Add c =
-    Stepping.does-as (Stepping.compute-is _ (computes c.row_kind.ensures c.in-Add.is)) c.compute_step.ensures
+pub returns-in-19 : goal.returns-in-19
+returns-in-19 c =
+    Stepping.does-as (Stepping.compute-is _ (computes _ (grind (arith, c.kind_at.ensures)) (grind (arith, c.kind_at.ensures)))) c.compute_step.ensures
+
+pub returns-in-0-to-7 : goal.returns-in-0-to-7
+returns-in-0-to-7 c = absurd (omega (arith, c.kind_at.ensures, (fits c.requires.0).kind))

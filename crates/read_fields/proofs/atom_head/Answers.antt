@@ -12,19 +12,19 @@ returns-in_err-kind c =
 
 pub is_spelled-requires : goal.is_spelled-requires
 is_spelled-requires c =
-    (omega (arith, byte-in c.args.t.now c.args.r 9 (omega arith) c.requires), bytes-short _ _ c.row_of-row.ensures)
+    (omega (arith, byte-in c.args.t.now c.args.r 9 (omega arith) c.requires), bytes-short _ _ c.row_of_kind-row.ensures)
 
 pub returns-then-not-is_spelled : goal.returns-then-not-is_spelled
 returns-then-not-is_spelled c =
     let k = c.in_ok-kind.ensures ∙ ap begun_by c.byte_at.ensures in
-    head-none c.args.t.now c.args.r c.requires _ (c.row_of-row.ensures ∙ ap atom_row k) _ c.is_spelled.ensures c.if-not-is_spelled.true
+    head-none c.args.t.now c.args.r c.requires _ (c.row_of_kind-row.ensures ∙ ap atom_row k) _ c.is_spelled.ensures c.if-not-is_spelled.true
 
 pub overflow_add-result : goal.overflow_add-result
 overflow_add-result c =
-    omega (arith, byte-in c.args.t.now c.args.r 9 (omega arith) c.requires, bytes-short _ _ c.row_of-row.ensures)
+    omega (arith, byte-in c.args.t.now c.args.r 9 (omega arith) c.requires, bytes-short _ _ c.row_of_kind-row.ensures)
 
 pub returns : goal.returns
 returns c =
     let k = c.in_ok-kind.ensures ∙ ap begun_by c.byte_at.ensures in
-    head-some c.args.t.now c.args.r c.requires _ (c.row_of-row.ensures ∙ ap atom_row k) _ c.is_spelled.ensures
-    c.if-not-is_spelled.false _ (λ z. operands-there _ (sym (ap (λ q. q.operands) c.row_of-row.ensures) ∙ z)) refl refl
+    head-some c.args.t.now c.args.r c.requires _ (c.row_of_kind-row.ensures ∙ ap atom_row k) _ c.is_spelled.ensures
+    c.if-not-is_spelled.false _ (λ z. operands-there _ (sym (ap (λ q. q.operands) c.row_of_kind-row.ensures) ∙ z)) refl refl

@@ -17,16 +17,16 @@ returns-in_err-kind c =
     rw c.from_residual.ensures
     (condition-empty c.args.t.now c.args.r (sym c.byte_at.ensures ∙ c.if-byte_at-ne-TAB.false) (sym (ap begun_by c.byte_at-2.ensures) ∙ c.in_err-kind.ensures) c.args.most)
 
-pub returns-then-not-row_of : goal.returns-then-not-row_of
-returns-then-not-row_of c =
+pub returns-then-not-row_of_kind : goal.returns-then-not-row_of_kind
+returns-then-not-row_of_kind c =
     let k = c.in_ok-kind.ensures ∙ ap begun_by c.byte_at-2.ensures in
     condition-case c.args.t.now c.args.r (sym c.byte_at.ensures ∙ c.if-byte_at-ne-TAB.false) _
-    (c.row_of.ensures ∙ ap atom_row k) false (not-true _ c.if-not-row_of.true) c.args.most
+    (c.row_of_kind.ensures ∙ ap atom_row k) false (not-true _ c.if-not-row_of_kind.true) c.args.most
 
 pub returns : goal.returns
 returns c =
     let k = c.in_ok-kind.ensures ∙ ap begun_by c.byte_at-2.ensures in
     read_as (is_formula c.args.most) (condition_first c.args.most) c.args.t.now c.args.r c.formula_end.result
     (condition-case c.args.t.now c.args.r (sym c.byte_at.ensures ∙ c.if-byte_at-ne-TAB.false) _
-    (c.row_of.ensures ∙ ap atom_row k) true (not-false _ c.if-not-row_of.false) c.args.most)
+    (c.row_of_kind.ensures ∙ ap atom_row k) true (not-false _ c.if-not-row_of_kind.false) c.args.most)
     c.formula_end.ensures

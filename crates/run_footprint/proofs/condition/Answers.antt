@@ -21,4 +21,4 @@ returns-in_err-r c =
 pub returns : goal.returns
 unfolding answered test_in right_test ◌>>=◌
 returns c =
-    rw (answered-ok _ _ c.in_ok-l.was c.left.ensures, answered-ok _ _ c.in_ok-r.was c.right.ensures, c.compare.ensures, ap (λ k. rel_of (kind_number k)) c.atom_kind.ensures ∙ rel-kind _)
+    rw (answered-ok _ _ c.in_ok-l.was c.left.ensures, answered-ok _ _ c.in_ok-r.was c.right.ensures, c.compare.ensures, ap (λ k. rel_of (kind_number k)) c.kind_of_atom.ensures ∙ rel-kind _)

@@ -34,12 +34,12 @@ next-requires c = c.requires.0.more
 pub returns : goal.returns
 returns c =
     let n-fits : c.in_ok-n.n < 4294967296 = search rules in
-    compute-does c.requires.0 c.requires.1 _ c.view_of-v.ensures _ _ _ _ _ c.y_at.ensures.0 c.z_at.ensures.0 c.row_kind.ensures c.variable-y.ensures c.variable-z.ensures
+    compute-does c.requires.0 c.requires.1 _ c.view_of-v.ensures _ _ _ _ _ c.y_at.ensures.0 c.z_at.ensures.0 c.kind_at.ensures c.variable-y.ensures c.variable-z.ensures
     _ _ c.x_at-x.ensures.0 n-fits (has_value _ c.compute.ensures _ (value_asked Fault.Overflow _ _ (sym c.ok_or.ensures.value ∙ c.in_ok-n.was))) c.put_word.ensures c.next.ensures
 
 pub returns-in_err-n : goal.returns-in_err-n
 returns-in_err-n c =
     let (none, f) = none-asked Fault.Overflow c.compute.result _ (sym c.ok_or.ensures.value ∙ c.in_err-n.was) in
     does-answer (sym (passed-on _ _ c.from_residual.ensures.1 ∙ ap Err f))
-    (compute-stops c.requires.0 c.requires.1 _ c.view_of-v.ensures _ _ _ _ _ c.y_at.ensures.0 c.z_at.ensures.0 c.row_kind.ensures c.variable-y.ensures c.variable-z.ensures
+    (compute-stops c.requires.0 c.requires.1 _ c.view_of-v.ensures _ _ _ _ _ c.y_at.ensures.0 c.z_at.ensures.0 c.kind_at.ensures c.variable-y.ensures c.variable-z.ensures
     (has-none _ c.compute.ensures none))

@@ -15,4 +15,4 @@ returns-in_err-show_end-2 c =
 pub returns : goal.returns
 returns c =
     join-done _ _ _ c.in_ok-show_end.ensures c.in_ok-show_end-2.ensures _ _ _
-    (adds_same _ _ _ _ _ (empty-add _ _ _ _ c.clear.ensures.same) c.add.ensures)
+    (adds_same _ _ _ _ _ (empty-add _ _ _ _ c.forget_all.ensures.same) c.add.ensures)

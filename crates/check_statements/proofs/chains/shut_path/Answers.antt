@@ -16,4 +16,4 @@ returns-in_err-take-2 c =
 pub returns : goal.returns
 returns c =
     shut-done c.args.known.now.keys c.args.known.now.bytes (whole c.args.known.now.sound) _ c.kinds-left.ensures _ _ c.take.new.left _ c.in_ok-take.ensures.1 _ c.variable_key-v.ensures.0 c.take-2.new.left
-    c.in_ok-take-2.ensures.1 _ _ c.remainder.ensures _ _ _ c.add_permission.ensures
+    c.in_ok-take-2.ensures.1 _ _ c.remainder.ensures _ _ _ c.add_entry.ensures.0
