@@ -36,6 +36,11 @@ fn words_are_found() {
         let within = format!("it is x{}y here", avoided.word);
         assert!(avoided_words("a.md", &within, &papers).is_empty());
     }
+    let given = "a: finds 1; looked at 2 of 3; mended 1; none";
+    assert!(avoided_words("docs/LOOK-BACK.md", given, &papers).is_empty());
+    for (path, line) in [("a.md", given), ("docs/LOOK-BACK.md", "It is mended.")] {
+        assert_eq!(avoided_words(path, line, &papers).len(), 1);
+    }
     let quote = "/// \"prints fields parted by tabs";
     assert!(avoided_words("a.rs", quote, &papers).is_empty());
     assert_eq!(
